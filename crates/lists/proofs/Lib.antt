@@ -1,0 +1,3 @@
+pub mod AllLaw
+pub mod SearchLaw
+pub mod TabLaw
