@@ -1,0 +1,3 @@
+pub mod Cast
+pub mod Quotient
+pub mod Dispatch
