@@ -1,0 +1,115 @@
+//! The coverage of generated cases: how often each refusal, each size number, each op of accepted
+//! programs and each constraint number of each op occurs.
+
+use crate::cases::{self, OPS, PAIRS};
+use crate::stream::{old_store, Case};
+use crate::Answer;
+use std::collections::BTreeMap;
+
+/// What was counted, each with a name of its own.
+#[derive(Clone, Debug, Default)]
+pub struct Coverage {
+    counts: BTreeMap<String, u64>,
+}
+
+fn refusal_name(refusal: u64) -> String {
+    format!("refusal {refusal}")
+}
+
+fn size_name(size: u64) -> String {
+    format!("size {size}")
+}
+
+fn op_name(mnemonic: &str) -> String {
+    format!("op {mnemonic}")
+}
+
+fn constraint_name(mnemonic: &str, c: u64) -> String {
+    format!("constraint {mnemonic} C{c}")
+}
+
+impl Coverage {
+    /// The coverage of the first `count` cases under `seed`.
+    pub fn of(seed: u64, count: u64) -> Coverage {
+        let mut coverage = Coverage::default();
+        for index in 0..count {
+            let case = cases::generate(seed, index).case;
+            let mut store = old_store(case.seed, case.store_length);
+            let answer = crate::evaluate(&case.text, &case.inputs, &mut store);
+            coverage.add(&case, answer);
+        }
+        coverage
+    }
+
+    fn count(&mut self, name: String) {
+        *self.counts.entry(name).or_insert(0) += 1;
+    }
+
+    /// Counts one case and its answer.
+    pub fn add(&mut self, case: &Case, answer: Answer) {
+        self.count(refusal_name(answer.refusal));
+        if answer.refusal == 4 {
+            self.count(size_name(answer.b));
+        }
+        if answer.refusal == 8 {
+            self.add_constraint(case, answer);
+        }
+        if let Ok(program) = crate::accept(&case.text) {
+            for op in &program.ops {
+                self.count(op_name(short(op.mnemonic.name())));
+            }
+        }
+    }
+
+    fn add_constraint(&mut self, case: &Case, answer: Answer) {
+        let program = crate::read(&case.text).expect("refusal 8 is of a text that was read");
+        let name = program.ops.get(answer.a as usize).map_or("return", |op| short(op.mnemonic.name()));
+        self.count(constraint_name(name, answer.b));
+    }
+
+    /// Everything that can occur, in the order in which it is printed.
+    pub fn possible() -> Vec<String> {
+        let refusals = (0..=12).map(refusal_name);
+        let sizes = (1..=8).map(size_name);
+        let ops = OPS.iter().map(|op| op_name(op));
+        let constraints = PAIRS.iter().map(|(op, c)| constraint_name(op, *c));
+        refusals.chain(sizes).chain(ops).chain(constraints).collect()
+    }
+
+    pub fn occurred(&self, name: &str) -> u64 {
+        self.counts.get(name).copied().unwrap_or(0)
+    }
+
+    /// What can occur and did not.
+    pub fn missing(&self) -> Vec<String> {
+        Coverage::possible().into_iter().filter(|name| self.occurred(name) == 0).collect()
+    }
+
+    /// What occurred although it cannot.
+    pub fn unforeseen(&self) -> Vec<String> {
+        let possible = Coverage::possible();
+        self.counts.keys().filter(|name| !possible.contains(name)).cloned().collect()
+    }
+}
+
+/// The mnemonic of a quoted name.
+fn short(name: &'static str) -> &'static str {
+    name.strip_prefix("stablehlo.").unwrap_or(name)
+}
+
+/// `coverage SEED COUNT`: one line each; exit status 1 where one that can occur does not.
+pub fn command(arguments: &[String]) -> Result<u8, String> {
+    let (seed, count) = cases::seed_and_count(arguments, "coverage")?;
+    let coverage = Coverage::of(seed, count);
+    for name in Coverage::possible() {
+        println!("{name}: {}", coverage.occurred(&name));
+    }
+    for name in coverage.unforeseen() {
+        println!("{name}: {} (unforeseen)", coverage.occurred(&name));
+    }
+    for name in coverage.missing() {
+        println!("missing: {name}");
+    }
+    let complete = coverage.missing().is_empty() && coverage.unforeseen().is_empty();
+    Ok(if complete { 0 } else { 1 })
+}
