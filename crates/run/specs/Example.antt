@@ -1,0 +1,85 @@
+-- A small set of ops over numbers, and two programs, on which the order theorem is worked.
+-- Assumes nothing.
+use mathlib.Core.Bool.{Bool, true, false}
+use mathlib.Core.List.{List, [], _∷_}
+use Prim.Native.Nat.{ℕ, zero, suc, _/_}
+use lib.Dec.{eqb, ltb}
+use lib.ListN.{getD}
+use Rattle.lists.specs.Lists.{pick, tab, firstWhere}
+use Rattle.run.specs.Tree.{Tree, leaf, node, start, element}
+use Rattle.run.specs.Run.{Out, gives, stops, Program}
+use Rattle.run.specs.Ways.{Way, plain, gather, OpSet}
+
+abbrev pub Tensor : Type 0
+Tensor = List ℕ
+
+-- the left number unless it is 0: associative, and not commutative
+abbrev pub leading : ℕ → ℕ → ℕ
+leading zero b = b
+leading (suc a) b = suc a
+
+-- its identity
+abbrev pub nothing : ℕ
+nothing = 0
+
+-- a constant; n quotients of two values; the leading one of a value's n numbers, from a start value
+pub data Op : Type 0 where
+  constant : Tensor → Op
+  divide : ℕ → ℕ → ℕ → Op
+  first : ℕ → ℕ → ℕ → Op
+
+abbrev pub operandsOf : Op → List ℕ
+operandsOf (constant xs) = []
+operandsOf (divide n x y) = x ∷ y ∷ []
+operandsOf (first n x s) = x ∷ s ∷ []
+
+abbrev pub quotients : ℕ → Tensor → Tensor → Out Tensor ℕ
+quotients n x y =
+    let zeroAt = firstWhere (λ d. eqb d 0) y in
+    pick (ltb zeroAt n) (stops zeroAt) (gives (tab n (λ i. getD x i 0 / getD y i 0)))
+
+abbrev pub wayOf : Op → List Tensor → Way Tensor ℕ ℕ
+wayOf (constant xs) args = plain (gives xs)
+wayOf (divide n x y) args = plain (quotients n (getD args 0 []) (getD args 1 []))
+wayOf (first n x s) args = gather leading (getD (getD args 1 []) 0 0) (getD args 0 [] ∷ [])
+
+abbrev pub rowsOf : Op → List ℕ
+rowsOf (constant xs) = []
+rowsOf (divide n x y) = []
+rowsOf (first n x s) = n ∷ []
+
+abbrev pub numbers : OpSet
+numbers =
+    record {
+      Op = Op;
+      Value = Tensor;
+      Stop = ℕ;
+      Element = ℕ;
+      operands = operandsOf;
+      turns = λ v. 0;
+      blank = [];
+      valueOf = λ xs. xs;
+      rowSizes = rowsOf;
+      way = λ o args b. wayOf o args;
+    }
+
+-- an input of 3 numbers is value 0; value 4 is the leading one of their halves
+abbrev pub halves : Program Op
+halves =
+    record {
+      inputs = 1;
+      ops = constant (nothing ∷ []) ∷ constant (2 ∷ 2 ∷ 2 ∷ []) ∷ divide 3 0 2 ∷ first 3 3 1 ∷ [];
+      returns = 4 ∷ [];
+    }
+
+-- not the text's order
+abbrev pub order : List ℕ
+order = 1 ∷ 2 ∷ 0 ∷ 3 ∷ []
+
+-- not the fold's tree: it uses the start twice
+abbrev pub trees : ℕ → ℕ → Tree
+trees k i = node (node (leaf start) (leaf (element 0))) (node (leaf (element 1)) (node (leaf start) (leaf (element 2))))
+
+-- the first input by each of two others
+abbrev pub twice : Program Op
+twice = record { inputs = 3; ops = divide 2 0 1 ∷ divide 2 0 2 ∷ []; returns = 3 ∷ 4 ∷ [] }

@@ -1,0 +1,4 @@
+pub mod Example
+pub mod Run
+pub mod Tree
+pub mod Ways

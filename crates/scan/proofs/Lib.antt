@@ -1,0 +1,3 @@
+pub mod ByteLaw
+pub mod TypeLaw
+pub mod EndLaw

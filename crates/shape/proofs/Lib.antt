@@ -1,0 +1,4 @@
+pub mod DimensionLaw
+pub mod ElementLaw
+pub mod Examples
+pub mod IndexLaw

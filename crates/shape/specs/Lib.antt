@@ -1,0 +1,3 @@
+pub mod Dims
+pub mod Index
+pub mod Place

@@ -1,0 +1,4 @@
+pub mod NameLaw
+pub mod TokenLaw
+pub mod LongestLaw
+pub mod Examples

@@ -1,0 +1,3 @@
+pub mod Lex
+pub mod Forms
+pub mod Names

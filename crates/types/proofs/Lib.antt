@@ -1,0 +1,5 @@
+pub mod DigitLaw
+pub mod ShapeLaw
+pub mod NumberLaw
+pub mod TypeLaw
+pub mod Examples

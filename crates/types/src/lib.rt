@@ -1,0 +1,3 @@
+// What number tokens and tensor type tokens say.
+pub mod numbers;
+pub mod tensors;
