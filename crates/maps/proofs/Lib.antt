@@ -1,0 +1,11 @@
+pub mod AttributeLaw
+pub mod ClosedLaw
+pub mod ConcatLaw
+pub mod GatherLaw
+pub mod KindLaw
+pub mod PadLaw
+pub mod PermutationLaw
+pub mod ReshapeLaw
+pub mod SliceLaw
+pub mod TransposeLaw
+pub mod WithinLaw

@@ -1,0 +1,2 @@
+pub mod CollectLaw
+pub mod RowLaw
