@@ -1,0 +1,12 @@
+pub mod CellRows
+pub mod Witness
+pub mod TableTest
+pub mod TableRight
+pub mod CellView
+pub mod Sound
+pub mod Exact
+pub mod Ended
+pub mod Theorems
+pub mod StackLaw
+pub mod StepLaw
+pub mod Examples

@@ -1,0 +1,5 @@
+pub mod ReadingLaw
+pub mod KindLaw
+pub mod Way
+pub mod Theorems
+pub mod Examples

@@ -1,0 +1,5 @@
+pub mod Kinds
+pub mod Tokens
+pub mod Readings
+pub mod Sentences
+pub mod Turns
