@@ -1,0 +1,2 @@
+pub mod ApplyLaw
+pub mod NodeLaw

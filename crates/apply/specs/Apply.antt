@@ -1,0 +1,98 @@
+-- What doing one op leaves in its stretch, and what it asks.
+-- Assumes nothing.
+use mathlib.Core.Path.{_≡_}
+use mathlib.Core.List.{List, [], _∷_, map}
+use Prim.Native.Nat.{ℕ, _≤_}
+use lib.Dec.{eqb}
+use lib.ListN.{length, getD, take, drop}
+use Rattle.run.specs.Run.{Out}
+use Rattle.run.specs.Ways.{byFold}
+use Rattle.shape.specs.Index.{at}
+use Rattle.shape.specs.Dims.{dimsOf, Sized, Fills}
+use Rattle.maps.specs.Holds.{Stretches, ReshapeHolds, SliceHolds, PadHolds, DynamicSliceHolds, IotaHolds}
+use Rattle.reduction.specs.Rows.{Stretches as ReduceStretches}
+use Rattle.elementwise.specs.Elementwise.{Tensor, Sized as TwoSized, SelectSized, ClampSized}
+use Rattle.ops.specs.declared.Move.{Move}
+use Rattle.ops.specs.declared.Move.the-variants.{Reshape, BroadcastInDim, Transpose, Slice, Reverse}
+use Rattle.ops.specs.declared.Kind.{Kind}
+use Rattle.ops.specs.declared.Kind.the-variants.{Constant, Iota, Elementwise, Pairwise, Quotient, Compare, Convert, Select, Clamp, Moved, Pad, Concatenate, DynamicSlice, Reduce}
+use Rattle.ops.specs.Ops.{Node, operandElement, operandDims, wayOf, hlo}
+use Rattle.apply.specs.declared.Task.{Task}
+
+-- the op of a task; the dimensions of operand 1 play no part in what it gives
+abbrev pub nodeOf : Task → Node
+nodeOf k =
+    record {
+      kind = k .kind;
+      result = record { element = k .element; dims = dimsOf (k .to) };
+      from = record { element = k .source; dims = dimsOf (k .from) }
+          ∷ record { element = k .index; dims = [] }
+          ∷ record { element = k .element; dims = dimsOf (k .last) } ∷ [];
+      first = take (k .count) (k .first);
+      second = take (k .from .rank) (k .second);
+      values = [];
+      operands = [];
+    }
+
+-- the operands' tensors: of dynamic_slice, operand 0 and the starts, one for each of its dimensions
+abbrev pub tensorsOf : Task → Kind → List ℕ → Tensor → Tensor → Tensor → List Tensor
+tensorsOf k DynamicSlice starts x y z = x ∷ map (λ s. s ∷ []) (take (k .from .rank) starts)
+tensorsOf k Constant starts x y z = x ∷ y ∷ z ∷ []
+tensorsOf k Iota starts x y z = x ∷ y ∷ z ∷ []
+tensorsOf k (Elementwise op) starts x y z = x ∷ y ∷ z ∷ []
+tensorsOf k (Pairwise op) starts x y z = x ∷ y ∷ z ∷ []
+tensorsOf k (Quotient op) starts x y z = x ∷ y ∷ z ∷ []
+tensorsOf k (Compare d) starts x y z = x ∷ y ∷ z ∷ []
+tensorsOf k Convert starts x y z = x ∷ y ∷ z ∷ []
+tensorsOf k Select starts x y z = x ∷ y ∷ z ∷ []
+tensorsOf k Clamp starts x y z = x ∷ y ∷ z ∷ []
+tensorsOf k (Moved m) starts x y z = x ∷ y ∷ z ∷ []
+tensorsOf k Pad starts x y z = x ∷ y ∷ z ∷ []
+tensorsOf k Concatenate starts x y z = x ∷ y ∷ z ∷ []
+tensorsOf k (Reduce body) starts x y z = x ∷ y ∷ z ∷ []
+
+-- what the op gives
+abbrev pub outcome : Task → Kind → List ℕ → Tensor → Tensor → Tensor → Out Tensor ℕ
+outcome k kind starts x y z = byFold hlo (wayOf (nodeOf k) kind (tensorsOf k kind starts x y z))
+
+-- the task k does the op o on args: what an op lacks reads as in noType and as no elements
+pub record Does (k : Task) (o : Node) (starts : List ℕ) (x y z : Tensor) (args : List Tensor) : Type 0 where
+  pub result : o .result ≡ record { element = k .element; dims = dimsOf (k .to) }
+  pub source : operandElement o 0 ≡ k .source
+  pub index : operandElement o 1 ≡ k .index
+  pub from : operandDims o 0 ≡ dimsOf (k .from)
+  pub last : operandDims o 2 ≡ dimsOf (k .last)
+  pub first : o .first ≡ take (k .count) (k .first)
+  pub second : o .second ≡ take (k .from .rank) (k .second)
+  pub operand-0 : getD args 0 [] ≡ x
+  pub operand-1 : getD args 1 [] ≡ y
+  pub operand-2 : getD args 2 [] ≡ z
+  pub starting : map (λ s. getD s 0 0) (drop 1 args) ≡ take (k .from .rank) starts
+
+-- What is asked: the stretches fit their shapes, and 000's constraints hold where the work needs them.
+abbrev pub MoveReady : Task → Move → Tensor → List ℕ → Type 0
+MoveReady k Reshape x out = Stretches (k .from) (k .to) x out × ReshapeHolds (dimsOf (k .from)) (dimsOf (k .to))
+MoveReady k BroadcastInDim x out = Stretches (k .from) (k .to) x out × (k .count ≡ k .from .rank)
+MoveReady k Transpose x out = Stretches (k .from) (k .to) x out × (k .count ≡ k .from .rank)
+MoveReady k Slice x out =
+    Stretches (k .from) (k .to) x out × (k .count ≡ k .from .rank)
+    × SliceHolds (take (k .from .rank) (k .first)) (take (k .from .rank) (k .limit)) (take (k .from .rank) (k .second)) (dimsOf (k .from)) (dimsOf (k .to))
+MoveReady k Reverse x out = Stretches (k .to) (k .to) x out × (k .count ≤ 6)
+
+abbrev pub Ready : Task → Kind → Tensor → Tensor → Tensor → List ℕ → Type 0
+Ready k Constant x y z out = ⊥
+Ready k Concatenate x y z out = ⊥
+Ready k (Quotient op) x y z out = ⊥
+Ready k Iota x y z out = Sized (k .to) × Fills out (k .to) × IotaHolds (at (k .first) 0) (dimsOf (k .to)) × (k .count ≡ 1)
+Ready k (Elementwise op) x y z out = Fills out (k .to) × (length x ≡ length out)
+Ready k (Pairwise op) x y z out = Fills out (k .to) × TwoSized (length out) x y
+Ready k (Compare d) x y z out = Fills out (k .to) × TwoSized (length out) x y
+Ready k Convert x y z out = Fills out (k .to) × (length x ≡ length out)
+Ready k Select x y z out = Fills out (k .to) × SelectSized (eqb (length (dimsOf (k .from))) 0) (length out) x y z
+Ready k Clamp x y z out =
+    Fills out (k .to) × ClampSized (eqb (length (dimsOf (k .from))) 0) (eqb (length (dimsOf (k .last))) 0) (length out) x y z
+Ready k (Moved m) x y z out = MoveReady k m x out
+Ready k Pad x y z out =
+    Stretches (k .from) (k .to) x out × PadHolds (take (k .from .rank) (k .second)) (dimsOf (k .from)) (dimsOf (k .to)) × (k .count ≡ k .from .rank)
+Ready k DynamicSlice x y z out = Stretches (k .from) (k .to) x out × DynamicSliceHolds (dimsOf (k .from)) (dimsOf (k .to))
+Ready k (Reduce body) x y z out = ReduceStretches (k .from) (k .to) (k .count) x out

@@ -1,0 +1,3 @@
+pub mod DivideLaw
+pub mod FillLaw
+pub mod HoldsLaw

@@ -1,0 +1,123 @@
+-- The set of ops of paper 01 as the order theorem takes it: what each op makes of its operands, outright or gathered.
+-- Assumes nothing.
+use mathlib.Core.Bool.{Bool, true, false}
+use mathlib.Core.List.{List, [], _∷_, map}
+use Prim.Native.Nat.{ℕ}
+use lib.Dec.{eqb}
+use lib.ListN.{length, getD, drop}
+use Rattle.lists.specs.Lists.{tab}
+use Rattle.run.specs.Run.{gives}
+use Rattle.run.specs.Ways.{Way, plain, gather, OpSet}
+use Rattle.element.specs.declared.ElementType.{ElementType}
+use Rattle.element.specs.declared.ElementType.the-variants.{I1}
+use Rattle.scalar.specs.Body.{bodyOf}
+use Rattle.shape.specs.Index.{at, size}
+use Rattle.maps.specs.Formulas.{reshaped, broadcasted, transposed, sliced, reversed, padded, dynamicSliced, counted}
+use Rattle.maps.specs.Concatenation.{concatenated}
+use Rattle.reduction.specs.Rows.{sliceShape, rowsOf}
+use Rattle.elementwise.specs.Elementwise.{Tensor, unaryAt, binaryAt, compareAt, convertAt, selectAt, clampAt, divided}
+use Rattle.ops.specs.declared.Move.{Move}
+use Rattle.ops.specs.declared.Move.the-variants.{Reshape, BroadcastInDim, Transpose, Slice, Reverse}
+use Rattle.ops.specs.declared.Kind.{Kind}
+use Rattle.ops.specs.declared.Kind.the-variants.{Constant, Iota, Elementwise, Pairwise, Quotient, Compare, Convert, Select, Clamp, Moved, Pad, Concatenate, DynamicSlice, Reduce}
+
+-- the type of a tensor: its elements' type and its dimensions
+pub record TensorType : Type 0 where
+  pub element : ElementType
+  pub dims : List ℕ
+
+-- what is read past the end of a list of types
+abbrev pub noType : TensorType
+noType = record { element = I1; dims = [] }
+
+-- An op of a program: its class, its result's type, its operands' types, its attribute lists, a constant's elements, and the numbers of its
+-- operands. `first` is iota_dimension or dimension (one number), broadcast_dimensions, permutation, start_indices, dimensions or
+-- edge_padding_low; `second` is strides or interior_padding. Attribute numbers are 64-bit patterns.
+pub record Node : Type 0 where
+  pub kind : Kind
+  pub result : TensorType
+  pub from : List TensorType
+  pub first : List ℕ
+  pub second : List ℕ
+  pub values : Tensor
+  pub operands : List ℕ
+
+module _ (o : Node) where
+  -- of the result: its element type, its dimensions, how many elements
+  abbrev pub elementOf : ElementType
+  elementOf = o .result .element
+
+  abbrev pub dimsOf : List ℕ
+  dimsOf = o .result .dims
+
+  abbrev pub countOf : ℕ
+  countOf = size (o .result .dims)
+
+  -- of operand j: its element type, its dimensions, whether it has rank 0
+  abbrev pub operandElement : ℕ → ElementType
+  operandElement j = getD (o .from) j noType .element
+
+  abbrev pub operandDims : ℕ → List ℕ
+  operandDims j = getD (o .from) j noType .dims
+
+  abbrev pub isSingle : ℕ → Bool
+  isSingle j = eqb (length (operandDims j)) 0
+
+  abbrev pub moved : Move → Tensor → Tensor
+  moved Reshape x = reshaped (operandDims 0) dimsOf x
+  moved BroadcastInDim x = broadcasted (o .first) (operandDims 0) dimsOf x
+  moved Transpose x = transposed (o .first) (operandDims 0) dimsOf x
+  moved Slice x = sliced (o .first) (o .second) (operandDims 0) dimsOf x
+  moved Reverse x = reversed (o .first) dimsOf x
+
+  -- the op of a class on its operands' tensors
+  abbrev pub wayOf : Kind → List Tensor → Way Tensor ℕ ℕ
+  wayOf Constant args = plain (gives (o .values))
+  wayOf Iota args = plain (gives (counted elementOf (at (o .first) 0) dimsOf))
+  wayOf (Elementwise op) args = plain (gives (tab countOf (unaryAt op elementOf (getD args 0 []))))
+  wayOf (Pairwise op) args = plain (gives (tab countOf (binaryAt op elementOf (getD args 0 []) (getD args 1 []))))
+  wayOf (Quotient op) args = plain (divided op elementOf countOf (getD args 0 []) (getD args 1 []))
+  wayOf (Compare d) args = plain (gives (tab countOf (compareAt d (operandElement 0) (getD args 0 []) (getD args 1 []))))
+  wayOf Convert args = plain (gives (tab countOf (convertAt (operandElement 0) elementOf (getD args 0 []))))
+  wayOf Select args = plain (gives (tab countOf (selectAt (isSingle 0) (getD args 0 []) (getD args 1 []) (getD args 2 []))))
+  wayOf Clamp args =
+      plain (gives (tab countOf (clampAt elementOf (isSingle 0) (isSingle 2) (getD args 0 []) (getD args 1 []) (getD args 2 []))))
+  wayOf (Moved m) args = plain (gives (moved m (getD args 0 [])))
+  wayOf Pad args = plain (gives (padded (o .first) (o .second) (operandDims 0) dimsOf (getD args 0 []) (getD (getD args 1 []) 0 0)))
+  wayOf Concatenate args = plain (gives (concatenated (at (o .first) 0) (map (λ t. t .dims) (o .from)) args dimsOf))
+  wayOf DynamicSlice args =
+      plain (gives (dynamicSliced (operandElement 1) (map (λ s. getD s 0 0) (drop 1 args)) (operandDims 0) dimsOf (getD args 0 [])))
+  wayOf (Reduce body) args = gather (bodyOf body elementOf) (getD (getD args 1 []) 0 0) (rowsOf (o .first) (operandDims 0) dimsOf (getD args 0 []))
+
+  -- how many elements each result element of a reduction is made of
+  abbrev pub rowSizesOf : Kind → List ℕ
+  rowSizesOf (Reduce body) = tab countOf (λ k. size (sliceShape (o .first) (operandDims 0)))
+  rowSizesOf Constant = []
+  rowSizesOf Iota = []
+  rowSizesOf (Elementwise op) = []
+  rowSizesOf (Pairwise op) = []
+  rowSizesOf (Quotient op) = []
+  rowSizesOf (Compare d) = []
+  rowSizesOf Convert = []
+  rowSizesOf Select = []
+  rowSizesOf Clamp = []
+  rowSizesOf (Moved m) = []
+  rowSizesOf Pad = []
+  rowSizesOf Concatenate = []
+  rowSizesOf DynamicSlice = []
+
+-- the set of ops: no op takes turns from a budget, and a value is its tensor alone
+abbrev pub hlo : OpSet
+hlo =
+    record {
+      Op = Node;
+      Value = Tensor;
+      Stop = ℕ;
+      Element = ℕ;
+      operands = λ o. o .operands;
+      turns = λ v. 0;
+      blank = [];
+      valueOf = λ xs. xs;
+      rowSizes = λ o. rowSizesOf o (o .kind);
+      way = λ o args b. wayOf o (o .kind) args;
+    }
