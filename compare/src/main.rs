@@ -1,0 +1,119 @@
+//! Runs the proved library beside the second evaluator.
+//!
+//! `compare stream`: cases in the stream form on standard input, a line `REFUSAL A B` for each, by the proved code.
+//! `compare judge SEED COUNT`: generated cases, the proved code against the second evaluator; status 1 on a difference.
+//! `compare prefixes FOLDER`: every prefix of every `.mlir` file of a folder, likewise.
+//! `compare hostile`: texts made to exhaust a reader, each in a thread with a stack of 2 MiB, with its time; status 1 on
+//! a difference or where one takes a second or more.
+
+use compare::{expected, judge};
+use evaluator::{cases, stream};
+use std::io::{self, Write};
+use std::process::ExitCode;
+use std::time::{Duration, Instant};
+
+mod hostile;
+
+fn main() -> ExitCode {
+    let arguments: Vec<String> = std::env::args().skip(1).collect();
+    let words: Vec<&str> = arguments.iter().map(String::as_str).collect();
+    let done = match words[..] {
+        ["stream"] => answer_stream(),
+        ["judge", seed, count] => number(seed).and_then(|seed| compare_cases(seed, number(count)?)),
+        ["prefixes", folder] => compare_prefixes(folder),
+        ["hostile"] => run_hostile(),
+        _ => Err("usage: compare stream | judge SEED COUNT | prefixes FOLDER | hostile".to_string()),
+    };
+    match done {
+        Ok(true) => ExitCode::SUCCESS,
+        Ok(false) => ExitCode::from(1),
+        Err(reason) => {
+            eprintln!("compare: {reason}");
+            ExitCode::from(2)
+        }
+    }
+}
+
+fn number(word: &str) -> Result<u64, String> {
+    stream::parse_number(word)
+}
+
+/// A line for each case on standard input.
+fn answer_stream() -> Result<bool, String> {
+    let mut input = io::stdin().lock();
+    let mut output = io::BufWriter::new(io::stdout().lock());
+    while let Some(case) = stream::read_case(&mut input)? {
+        let answer = judge(&case.text);
+        writeln!(output, "{} {} {}", answer.refusal, answer.a, answer.b).map_err(|error| error.to_string())?;
+    }
+    output.flush().map_err(|error| error.to_string())?;
+    Ok(true)
+}
+
+/// Generated cases, one by one.
+fn compare_cases(seed: u64, count: u64) -> Result<bool, String> {
+    let mut differences = 0;
+    for index in 0..count {
+        let case = cases::generate(seed, index).case;
+        let (ours, theirs) = (judge(&case.text), expected(&case.text));
+        if ours != theirs {
+            differences += 1;
+            println!("case {index} of seed {seed}: proved {ours:?}, second evaluator {theirs:?}");
+        }
+    }
+    println!("{count} cases of seed {seed}: {differences} differences");
+    Ok(differences == 0)
+}
+
+/// Every prefix of every program of a folder.
+fn compare_prefixes(folder: &str) -> Result<bool, String> {
+    let (mut texts, mut differences) = (0, 0);
+    for entry in std::fs::read_dir(folder).map_err(|error| format!("{folder}: {error}"))? {
+        let path = entry.map_err(|error| error.to_string())?.path();
+        if path.extension().is_none_or(|extension| extension != "mlir") {
+            continue;
+        }
+        let text = std::fs::read(&path).map_err(|error| format!("{}: {error}", path.display()))?;
+        for length in 0..=text.len() {
+            let (ours, theirs) = (judge(&text[..length]), expected(&text[..length]));
+            texts += 1;
+            if ours != theirs {
+                differences += 1;
+                println!("{} cut to {length} bytes: proved {ours:?}, second evaluator {theirs:?}", path.display());
+            }
+        }
+    }
+    println!("{texts} prefixes: {differences} differences");
+    Ok(texts > 0 && differences == 0)
+}
+
+/// Every hostile text, on a small stack.
+fn run_hostile() -> Result<bool, String> {
+    let mut fine = true;
+    for (name, text) in hostile::texts() {
+        let theirs = expected(&text);
+        let length = text.len();
+        let (ours, time) = on_small_stack(text)?;
+        let right = ours == theirs && time < Duration::from_secs(1);
+        fine &= right;
+        println!(
+            "{name}: {length} bytes, {} {} {}, {:.3} s{}",
+            ours.refusal,
+            ours.a,
+            ours.b,
+            time.as_secs_f64(),
+            if right { "" } else { ": WRONG" }
+        );
+    }
+    Ok(fine)
+}
+
+/// Judges a text in a thread with a stack of 2 MiB.
+fn on_small_stack(text: Vec<u8>) -> Result<(evaluator::Answer, Duration), String> {
+    let run = move || {
+        let from = Instant::now();
+        (judge(&text), from.elapsed())
+    };
+    let thread = std::thread::Builder::new().stack_size(2 << 20).spawn(run).map_err(|error| error.to_string())?;
+    thread.join().map_err(|_| "a thread failed".to_string())
+}
