@@ -1,0 +1,5 @@
+pub mod Examples
+pub mod LengthLaw
+pub mod LiteralLaw
+pub mod ReadLaw
+pub mod ValueLaw

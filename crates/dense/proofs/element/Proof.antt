@@ -1,0 +1,31 @@
+use Rattle.laid.proofs.LaidLaw.{lay-none, lay-one}
+use Rattle.dense.specs.Dense.{oneAt}
+use Rattle.dense.specs.Filled.{after}
+use borrow.Author.Needs.{needs}
+use Rattle.dense.proofs.element.Statement.{statement}
+use Rattle.dense.proofs.element.Tie as tie
+
+token-at-requires : tie.Need-token-at-requires
+token-at-requires c κs = search needs
+
+literal-requires : tie.Need-literal-requires
+literal-requires c κs = search needs
+
+put-slot-requires : tie.Need-put-slot-requires
+put-slot-requires c κs = search needs
+
+same-length : tie.Need-same-length
+same-length c = search needs
+
+returns : tie.Need-returns
+unfolding after oneAt
+returns c = simp (lay-one, ← c .before .before .put-slot .ensures, c .before .before .before .before .if1 .taken, ← c .before .before .before .before .before .literal .ensures, ← c .before .before .before .before .before .before .token-at .ensures)
+
+returns-2 : tie.Need-returns-2
+unfolding after oneAt
+returns-2 c = simp (lay-none, c .if1 .left, ← c .before .literal .ensures, ← c .before .before .token-at .ensures)
+
+pub element-spec : {M : Type 1} → statement M
+element-spec =
+    tie.close
+    (tie.spec token-at-requires literal-requires put-slot-requires same-length returns returns-2)

@@ -1,0 +1,2 @@
+pub mod Dense
+pub mod Filled

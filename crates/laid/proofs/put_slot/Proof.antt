@@ -1,0 +1,29 @@
+use borrow.Author.Tests.{lt-ltb, le-ltb}
+use Rattle.laid.specs.Laid.{put}
+use borrow.Author.Needs.{needs}
+use Rattle.laid.proofs.put_slot.Statement.{statement}
+use Rattle.laid.proofs.put_slot.Tie as tie
+
+mul-out : tie.Need-mul-out
+mul-out c = search needs
+
+slice-write-out : tie.Need-slice-write-out
+slice-write-out c = search needs
+
+add-result : tie.Need-add-result
+add-result c = search needs
+
+same-length : tie.Need-same-length
+same-length c = search needs
+
+returns : tie.Need-returns
+unfolding put
+returns c = simp (lt-ltb _ _ (c .if1 .taken))
+
+returns-2 : tie.Need-returns-2
+unfolding put
+returns-2 c = simp (le-ltb _ _ (c .if1 .left))
+
+pub put-slot-spec : {M : Type 1} → statement M
+put-slot-spec =
+    tie.close (tie.spec mul-out slice-write-out add-result same-length returns returns-2)

@@ -1,0 +1,54 @@
+use borrow.Author.Needs.{needs}
+use mathlib.Core.Path.{_≡_, refl, _∙_}
+use Prim.Native.Nat.{_≤_, _-_}
+use native.Mathlib.Omega.{arith}
+use lib.ListN.{length, drop}
+use Rattle.laid.specs.Laid.{laid, lay}
+use Rattle.printed.proofs.PrintLaw.{text-step, text-end}
+use Rattle.printed.proofs.put_text.Statement.{statement}
+use Rattle.printed.proofs.put_text.Tie as tie
+
+abbrev Inv-loop : tie.InvT-loop
+Inv-loop out₀ from word place₀ i₀ out place i = (length out ≡ length out₀) × (i ≤ length word) × (lay (drop i word) (laid place out) ≡ lay word (laid from out₀))
+
+abbrev μ-loop : tie.MeasureT-loop
+μ-loop out₀ from word place₀ i₀ out place i = length word - i
+
+loop-holds : tie.Need-loop-holds Inv-loop μ-loop
+loop-holds c = (refl, omega arith, refl)
+
+shared-slice-read-put-byte : tie.Need-shared-slice-read-put-byte Inv-loop μ-loop
+shared-slice-read-put-byte c = search needs
+
+put-byte-requires : tie.Need-put-byte-requires Inv-loop μ-loop
+put-byte-requires c κs = search needs
+
+add-i : tie.Need-add-i Inv-loop μ-loop
+add-i c = search needs
+
+loop-less : tie.Need-loop-less Inv-loop μ-loop
+loop-less c = search needs
+
+loop-again : tie.Need-loop-again Inv-loop μ-loop
+loop-again c = (c .before .before .put-byte .kept .0 ∙ c .before .before .before .before .before .before .loop .inv .0, omega arith, text-step _ _ _ _ (c .before .before .before .before .before .loop-test .taken) (c .before .before .put-byte .ensures) ∙ c .before .before .before .before .before .before .loop .inv .2)
+
+same-length : tie.Need-same-length Inv-loop μ-loop
+same-length c = c .before .loop .inv .0
+
+returns : tie.Need-returns Inv-loop μ-loop
+returns c = text-end _ _ _ (c .loop-test .left) ∙ c .before .loop .inv .2
+
+pub put-text-spec : {M : Type 1} → statement M
+put-text-spec =
+    tie.close
+    (tie.spec
+    Inv-loop
+    μ-loop
+    loop-holds
+    shared-slice-read-put-byte
+    put-byte-requires
+    add-i
+    loop-less
+    loop-again
+    same-length
+    returns)
