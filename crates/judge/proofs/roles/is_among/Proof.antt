@@ -1,0 +1,58 @@
+-- `judge::roles::is_among` meets its contract. The loop's invariant: the answer from here is the answer from the start.
+-- Assumes nothing.
+use mathlib.Core.Path.{_≡_, refl, sym, _∙_}
+use Prim.Native.Nat.{_-_}
+use native.Mathlib.Omega.{arith}
+use lib.ListN.{length, drop}
+use borrow.Author.Needs.{needs}
+use Rattle.judge.specs.Roles.{among}
+use Rattle.judge.proofs.RoleLaw.{among-here, among-next, among-past}
+use Rattle.judge.proofs.roles.is_among.Statement.{statement}
+use Rattle.judge.proofs.roles.is_among.Tie as tie
+
+abbrev Inv-loop : tie.InvT-loop
+Inv-loop roles role i₀ i = among (drop i roles) role ≡ among roles role
+
+abbrev μ-loop : tie.MeasureT-loop
+μ-loop roles role i₀ i = length roles - i
+
+loop-holds : tie.Need-loop-holds Inv-loop μ-loop
+loop-holds c = refl
+
+shared-slice-read-if1 : tie.Need-shared-slice-read-if1 Inv-loop μ-loop
+shared-slice-read-if1 c = search needs
+
+returns : tie.Need-returns Inv-loop μ-loop
+returns c =
+    let l = c .before .before .before .loop in
+    sym (among-here _ _ (l .i) (omega arith) (c .if1 .taken)) ∙ l .inv
+
+add-i : tie.Need-add-i Inv-loop μ-loop
+add-i c = search needs
+
+loop-less : tie.Need-loop-less Inv-loop μ-loop
+loop-less c = search needs
+
+loop-again : tie.Need-loop-again Inv-loop μ-loop
+loop-again c =
+    let l = c .before .before .before .loop in
+    sym (among-next _ _ (l .i) (omega arith) (c .if1 .left)) ∙ l .inv
+
+returns-2 : tie.Need-returns-2 Inv-loop μ-loop
+returns-2 c =
+    let l = c .before .loop in
+    sym (among-past _ _ (l .i) (omega arith)) ∙ l .inv
+
+pub is-among-spec : {M : Type 1} → statement M
+is-among-spec =
+    tie.close
+    (tie.spec
+    Inv-loop
+    μ-loop
+    loop-holds
+    shared-slice-read-if1
+    returns
+    add-i
+    loop-less
+    loop-again
+    returns-2)

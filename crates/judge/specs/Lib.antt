@@ -1,0 +1,4 @@
+pub mod Roles
+pub mod Tally
+pub mod Sizes
+pub mod Judge
