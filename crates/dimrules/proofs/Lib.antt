@@ -1,0 +1,3 @@
+pub mod CountLaw
+pub mod WholeLaw
+pub mod ReadLaw

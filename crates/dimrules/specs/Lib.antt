@@ -1,0 +1,4 @@
+pub mod Count
+pub mod Whole
+pub mod Dims
+pub mod Types

@@ -1,0 +1,5 @@
+pub mod TableLaw
+pub mod SameLaw
+pub mod ScanLaw
+pub mod NameLaw
+pub mod Examples

@@ -1,0 +1,3 @@
+pub mod BrokenLaw
+pub mod FactLaw
+pub mod Examples
