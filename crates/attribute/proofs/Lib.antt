@@ -1,0 +1,2 @@
+pub mod ScanLaw
+pub mod Examples

@@ -1,0 +1,59 @@
+-- `attribute::close_of` meets its contract. The loop's invariant: the end from here on is the end asked for.
+-- Assumes nothing.
+use mathlib.Core.Path.{_≡_, refl, sym, _∙_}
+use native.Mathlib.Omega.{arith}
+use borrow.Author.Needs.{needs}
+use lib.ListN.{length}
+use Rattle.attribute.specs.Attribute.{closeFrom}
+use Rattle.attribute.proofs.ScanLaw.{close-stop, close-more, close-none}
+use Rattle.attribute.proofs.close_of.Statement.{statement}
+use Rattle.attribute.proofs.close_of.Tie as tie
+
+abbrev Inv-loop : tie.InvT-loop
+Inv-loop text at i₀ left₀ i left = closeFrom left text i ≡ closeFrom (length text) text at
+
+abbrev μ-loop : tie.MeasureT-loop
+μ-loop text at i₀ left₀ i left = left
+
+loop-holds : tie.Need-loop-holds Inv-loop μ-loop
+loop-holds c = refl
+
+token-at-requires : tie.Need-token-at-requires Inv-loop μ-loop
+token-at-requires c κs = search needs
+
+ends-literal-requires : tie.Need-ends-literal-requires Inv-loop μ-loop
+ends-literal-requires c κs = search needs
+
+returns : tie.Need-returns Inv-loop μ-loop
+returns c =
+    let h = c .before .before .before .before in
+    let l = h .loop in
+    let text = h .before .before .args .text .now in
+    let m = c .before .before .before .loop-test .taken in
+    let t = c .before .before .token-at in
+    sym (close-stop (l .left) text (l .i) (t .result) (omega arith) (t .ensures) (sym (c .before .ends-literal .ensures) ∙ c .if1 .taken)) ∙ l .inv
+
+sub-left : tie.Need-sub-left Inv-loop μ-loop
+sub-left c = search needs
+
+loop-less : tie.Need-loop-less Inv-loop μ-loop
+loop-less c = search needs
+
+loop-again : tie.Need-loop-again Inv-loop μ-loop
+loop-again c =
+    let h = c .before .before .before .before in
+    let l = h .loop in
+    let text = h .before .before .args .text .now in
+    let m = c .before .before .before .loop-test .taken in
+    let t = c .before .before .token-at in
+    sym (close-more (l .left) text (l .i) (t .result) (omega arith) (t .ensures) (sym (c .before .ends-literal .ensures) ∙ c .if1 .left)) ∙ l .inv
+
+returns-2 : tie.Need-returns-2 Inv-loop μ-loop
+returns-2 c =
+    let h = c .before in
+    let l = h .loop in
+    let text = h .before .before .args .text .now in
+    sym (close-none (l .left) text (l .i) (omega arith)) ∙ l .inv
+
+pub close-of-spec : {M : Type 1} → statement M
+close-of-spec = tie.close (tie.spec Inv-loop μ-loop loop-holds token-at-requires ends-literal-requires returns sub-left loop-less loop-again returns-2)

@@ -1,0 +1,225 @@
+// The value of an attribute, by the place of the attribute's name in the text.
+use element::ElementType;
+use optable::Kinds;
+use optable::find_choice;
+use optable::find_choice_kind;
+use text::Token;
+use text::names::is_word;
+use text::token_at;
+use types::numbers::number_in;
+ghost use mathlib.Core.Path.{_≡_};
+ghost use lib.ListN.{length};
+ghost use Rattle.scan.specs.Ascii.{ascii};
+ghost use Rattle.text.specs.Names.{wordIs};
+ghost use Rattle.attribute.specs.Attribute.{tokenAfter, choiceForm, wordForm, choiceAt, formAt, patternAt, numberAt, noNumbers, withNumber, goesOn, numbersFrom, numbersAt, endsLiteral, closeFrom, denseAt};
+
+// The numbers of a list, as signed 64-bit patterns.
+pub struct Numbers {
+    pub count: usize,
+    pub list: [usize; 6],
+}
+
+// The rows of a choice's two words in the table of ops.
+pub struct Chosen {
+    pub kind: usize,
+    pub choice: usize,
+}
+
+// Where the literal of a constant and its type start.
+pub struct Constant {
+    pub literal: usize,
+    pub ty: usize,
+}
+
+// The token that comes n tokens after the one at or after byte at.
+fn token_after(text: &[u8], at: usize, n: usize) -> Token
+    ensures { λ r. ⌜ r ≡ tokenAfter n (now (text .entry)) at ⌝ }
+{
+    let mut i = at;
+    let mut left = n;
+    while left > 0 {
+        i = token_at(text, i).end;
+        left -= 1;
+    }
+    token_at(text, i)
+}
+
+fn is_array(text: &[u8], start: usize, end: usize) -> bool
+    ensures { λ r. ⌜ r ≡ wordIs (ascii "array") (now (text .entry)) start end ⌝ }
+{
+    is_word(text, start, end, b"array")
+}
+
+fn is_dense(text: &[u8], start: usize, end: usize) -> bool
+    ensures { λ r. ⌜ r ≡ wordIs (ascii "dense") (now (text .entry)) start end ⌝ }
+{
+    is_word(text, start, end, b"dense")
+}
+
+fn choice_form(row: usize) -> usize
+    ensures { λ r. ⌜ r ≡ choiceForm row ⌝ }
+{
+    if row == 0 {
+        return Kinds::DIRECTION;
+    }
+    if row == 1 {
+        return Kinds::COMPARE_TYPE;
+    }
+    0
+}
+
+fn word_form(text: &[u8], t: Token) -> usize
+    ensures { λ r. ⌜ r ≡ wordForm (now (text .entry)) t ⌝ }
+{
+    if is_array(text, t.start, t.end) {
+        return Kinds::NUMBERS;
+    }
+    if is_dense(text, t.start, t.end) {
+        return Kinds::DENSE;
+    }
+    0
+}
+
+// The rows of the choice, 2 and 8 where the table has no such word.
+pub fn choice_at(text: &[u8], name: usize) -> Chosen
+    ensures { λ r. ⌜ r ≡ choiceAt (now (text .entry)) name ⌝ }
+{
+    let kind = token_after(text, name, 4);
+    let choice = token_after(text, name, 5);
+    Chosen {
+        kind: find_choice_kind(text, kind.start, kind.end),
+        choice: find_choice(text, choice.start, choice.end),
+    }
+}
+
+// The kind of the attribute's value, as in the table of ops; 0 for none.
+pub fn form_at(text: &[u8], name: usize) -> usize
+    ensures { λ r. ⌜ r ≡ formAt (now (text .entry)) name ⌝ }
+{
+    let t = token_after(text, name, 2);
+    if t.kind == 2 {
+        return Kinds::NUMBER;
+    }
+    if t.kind == 5 {
+        return choice_form(choice_at(text, name).kind);
+    }
+    if t.kind == 1 {
+        return word_form(text, t);
+    }
+    0
+}
+
+// The number whose token starts here, as a signed 64-bit pattern; 0 where it does not fit.
+fn pattern_at(text: &[u8], start: usize) -> usize
+    ensures { λ r. ⌜ r ≡ patternAt (now (text .entry)) start ⌝ }
+{
+    number_in(text, start, ElementType::I64).bits as usize
+}
+
+pub fn number_at(text: &[u8], name: usize) -> usize
+    ensures { λ r. ⌜ r ≡ numberAt (now (text .entry)) name ⌝ }
+{
+    pattern_at(text, token_after(text, name, 2).start)
+}
+
+fn no_numbers() -> Numbers
+    ensures { λ r. ⌜ r ≡ noNumbers ⌝ }
+{
+    Numbers {
+        count: 0,
+        list: [0; 6],
+    }
+}
+
+// One number more, of at most six.
+fn with_number(ns: Numbers, v: usize) -> Numbers
+    ensures { λ r. ⌜ r ≡ withNumber ns v ⌝ }
+{
+    let mut next = ns;
+    let n = next.count;
+    if n < 6 {
+        next.count = n + 1;
+        next.list[n] = v;
+        return next;
+    }
+    next
+}
+
+fn goes_on(kind: u8) -> bool
+    ensures { λ r. ⌜ r ≡ goesOn kind ⌝ }
+{
+    if kind == b':' {
+        return true;
+    }
+    if kind == b',' {
+        return true;
+    }
+    false
+}
+
+// The numbers from byte at on.
+fn numbers_from(text: &[u8], at: usize) -> Numbers
+    ensures { λ r. ⌜ r ≡ numbersFrom 6 noNumbers (now (text .entry)) at ⌝ }
+{
+    let mut ns = no_numbers();
+    let mut i = at;
+    let mut left: usize = 6;
+    while left > 0 {
+        let mark = token_at(text, i);
+        if goes_on(mark.kind) {
+            let number = token_at(text, mark.end);
+            ns = with_number(ns, pattern_at(text, number.start));
+            i = number.end;
+            left -= 1;
+        } else {
+            return ns;
+        }
+    }
+    ns
+}
+
+pub fn numbers_at(text: &[u8], name: usize) -> Numbers
+    ensures { λ r. ⌜ r ≡ numbersAt (now (text .entry)) name ⌝ }
+{
+    numbers_from(text, token_after(text, name, 4).end)
+}
+
+fn ends_literal(kind: u8) -> bool
+    ensures { λ r. ⌜ r ≡ endsLiteral kind ⌝ }
+{
+    if kind == b'>' {
+        return true;
+    }
+    if kind == 0 {
+        return true;
+    }
+    false
+}
+
+// Where the first `>` from byte at on ends, or the text.
+fn close_of(text: &[u8], at: usize) -> usize
+    ensures { λ r. ⌜ r ≡ closeFrom (length (now (text .entry))) (now (text .entry)) at ⌝ }
+{
+    let mut i = at;
+    let mut left = text.len();
+    while left > 0 {
+        let t = token_at(text, i);
+        if ends_literal(t.kind) {
+            return t.end;
+        }
+        i = t.end;
+        left -= 1;
+    }
+    i
+}
+
+pub fn dense_at(text: &[u8], name: usize) -> Constant
+    ensures { λ r. ⌜ r ≡ denseAt (now (text .entry)) name ⌝ }
+{
+    let literal = token_after(text, name, 4).start;
+    let close = close_of(text, literal);
+    Constant {
+        literal: literal,
+        ty: token_after(text, close, 1).start,
+    }
+}

@@ -1,0 +1,2 @@
+pub mod FoldLaw
+pub mod Examples
