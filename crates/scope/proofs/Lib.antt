@@ -1,0 +1,2 @@
+pub mod ScopeLaw
+pub mod Examples
