@@ -4,7 +4,7 @@ use evaluator::{cases, coverage, freecheck, print, stream};
 use std::io::{BufRead, Read, Write};
 use std::process::ExitCode;
 
-const USAGE: &str = "usage: evaluator evaluate | stream | cases SEED COUNT | coverage SEED COUNT | free SEED COUNT";
+const USAGE: &str = "usage: evaluator evaluate | ops | stream | cases SEED COUNT | coverage SEED COUNT | free SEED COUNT";
 
 fn main() -> ExitCode {
     let arguments: Vec<String> = std::env::args_os().skip(1).map(|word| word.to_string_lossy().into_owned()).collect();
@@ -23,6 +23,7 @@ fn command(arguments: &[String]) -> Result<u8, String> {
     let rest = &arguments[1..];
     match name.as_str() {
         "evaluate" => no_arguments(rest).and_then(|()| evaluate()),
+        "ops" => no_arguments(rest).and_then(|()| list_ops()),
         "stream" => no_arguments(rest).and_then(|()| answer_stream()),
         "cases" => cases::command(rest),
         "coverage" => coverage::command(rest),
@@ -46,6 +47,14 @@ fn evaluate() -> Result<u8, String> {
     std::io::stdin().lock().read_to_end(&mut text).map_err(|error| error.to_string())?;
     let output = print::program_output(&text);
     write_all(output.as_bytes())?;
+    Ok(0)
+}
+
+/// The result of every op of a text without inputs; a text that is refused is bad input.
+fn list_ops() -> Result<u8, String> {
+    let mut text = Vec::new();
+    std::io::stdin().lock().read_to_end(&mut text).map_err(|error| error.to_string())?;
+    write_all(print::op_lines(&text)?.as_bytes())?;
     Ok(0)
 }
 

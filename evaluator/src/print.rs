@@ -1,5 +1,6 @@
 //! Printing: what the evaluating program writes (01 Table of examples, end; OP-95, OP-96).
 
+use crate::optable::Mnemonic;
 use crate::program::{Program, Tensor};
 use crate::{sizes, store, Answer};
 
@@ -15,6 +16,30 @@ pub fn program_output(text: &[u8]) -> String {
         Ok(program) => results(&program, &slots),
         Err(answer) => format!("refused {} {} {}\n", answer.refusal, answer.a, answer.b),
     }
+}
+
+/// One line for every op but the constants, in text order: the mnemonic, then the slots of its
+/// result in decimal, single spaces. The text has no inputs; the error is the refusal.
+pub fn op_lines(text: &[u8]) -> Result<String, String> {
+    let mut slots = vec![0; sizes::ELEMENTS];
+    let refused = |answer: Answer| format!("the text is refused: {} {} {}", answer.refusal, answer.a, answer.b);
+    let program = crate::accept(text).map_err(refused)?;
+    match store::evaluate(&program, &[], &mut slots) {
+        Answer::ACCEPTED => {}
+        answer => return Err(refused(answer)),
+    }
+    let mut lines = String::new();
+    let mut at = program.input_elements();
+    for op in &program.ops {
+        let stretch = &slots[at..at + op.result_types[0].elements()];
+        at += stretch.len();
+        if op.mnemonic != Mnemonic::Constant {
+            let words: Vec<String> = stretch.iter().map(|slot| format!(" {slot}")).collect();
+            let name = op.mnemonic.name().trim_start_matches("stablehlo.");
+            lines += &format!("{name}{}\n", words.concat());
+        }
+    }
+    Ok(lines)
 }
 
 /// One line for each value that the return names.

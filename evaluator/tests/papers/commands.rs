@@ -1,4 +1,4 @@
-//! The commands `evaluate` and `stream`, run as programs.
+//! The commands `evaluate`, `ops` and `stream`, run as programs.
 
 use evaluator::stream::{answer_case, hash, old_store, read_case, write_case, Case};
 use std::io::Write;
@@ -45,12 +45,27 @@ fn evaluate_prints_results_or_refused() {
 }
 
 #[test]
+fn ops_prints_a_line_for_every_op_but_constants() {
+    let text = "func.func @m() {\n%a = \"stablehlo.constant\"() {value = dense<[1, -3]> : tensor<2xi8>} : () -> tensor<2xi8>\n\
+                %n = \"stablehlo.negate\"(%a) : (tensor<2xi8>) -> tensor<2xi8>\n\
+                %s = \"stablehlo.sign\"(%a) : (tensor<2xi8>) -> tensor<2xi8>\n\"func.return\"() : () -> ()}";
+    let output = program(&["ops"], text.as_bytes());
+    assert_eq!(output.stdout, b"negate 18446744073709551615 3\nsign 1 18446744073709551615\n");
+    assert_eq!((output.status.code(), output.stderr.len()), (Some(0), 0));
+    // A text that is refused, by its grammar or for its inputs, is bad input.
+    for text in ["", "func.func @m(%a: tensor<2xi8>) {\n\"func.return\"() : () -> ()}"] {
+        assert!(refused(&["ops"], text.as_bytes()).stdout.is_empty());
+    }
+}
+
+#[test]
 fn bad_arguments() {
     for arguments in [
         &[][..],
         &["other"],
         &["evaluate", "x"],
         &["stream", "1"],
+        &["ops", "x"],
         &[""],
         &["cases"],
         &["cases", "1"],

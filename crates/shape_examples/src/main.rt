@@ -1,0 +1,31 @@
+// Runs the proved ops that work shape by shape on the examples of 01 and of 000, as examples/shape_ops.mlir has them, and writes their results.
+mod folded;
+mod moved;
+mod movers;
+mod parts;
+
+fn run_moved() {
+    moved::iota_examples();
+    moved::reshape_examples();
+    moved::transpose_examples();
+    moved::reverse_examples();
+    moved::broadcast_in_dim_examples();
+}
+
+fn run_parts() {
+    parts::slice_examples();
+    parts::pad_examples();
+    parts::dynamic_slice_examples();
+    parts::concatenate_examples();
+}
+
+fn run_folded() {
+    folded::sums_examples();
+    folded::bodies_examples();
+}
+
+fn main() {
+    run_moved();
+    run_parts();
+    run_folded();
+}
