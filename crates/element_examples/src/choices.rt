@@ -1,5 +1,4 @@
 // Comparing and choosing.
-use crate::lend;
 use element::ElementType;
 use scalar::Direction;
 
@@ -8,7 +7,7 @@ pub fn compare_examples() {
     let x0 = [10u64, 30];
     let y0 = [11u64, 29];
     let mut out0 = [0u64; 2];
-    lend::compare(
+    shown_elements::compare(
         b"compare",
         Direction::Lt,
         ElementType::I32,
@@ -19,7 +18,7 @@ pub fn compare_examples() {
     let x1 = [10u64, 30];
     let y1 = [11u64, 29];
     let mut out1 = [0u64; 2];
-    lend::compare(
+    shown_elements::compare(
         b"compare",
         Direction::Eq,
         ElementType::I32,
@@ -30,7 +29,7 @@ pub fn compare_examples() {
     let x2 = [10u64, 30];
     let y2 = [11u64, 29];
     let mut out2 = [0u64; 2];
-    lend::compare(
+    shown_elements::compare(
         b"compare",
         Direction::Ne,
         ElementType::I32,
@@ -41,7 +40,7 @@ pub fn compare_examples() {
     let x3 = [10u64, 30];
     let y3 = [11u64, 29];
     let mut out3 = [0u64; 2];
-    lend::compare(
+    shown_elements::compare(
         b"compare",
         Direction::Ge,
         ElementType::I32,
@@ -52,7 +51,7 @@ pub fn compare_examples() {
     let x4 = [10u64, 30];
     let y4 = [11u64, 29];
     let mut out4 = [0u64; 2];
-    lend::compare(
+    shown_elements::compare(
         b"compare",
         Direction::Gt,
         ElementType::I32,
@@ -63,7 +62,7 @@ pub fn compare_examples() {
     let x5 = [10u64, 30];
     let y5 = [11u64, 29];
     let mut out5 = [0u64; 2];
-    lend::compare(
+    shown_elements::compare(
         b"compare",
         Direction::Le,
         ElementType::I32,
@@ -79,7 +78,7 @@ pub fn select_examples() {
     let y = [1u64, 2, 3, 4];
     let z = [5u64, 6, 7, 8];
     let mut out = [0u64; 4];
-    lend::select(b"select", &x, &y, &z, &mut out);
+    shown_elements::select(b"select", &x, &y, &z, &mut out);
 }
 
 // clamp: 000; 01: min 5, x 4, max 3
@@ -88,10 +87,10 @@ pub fn clamp_examples() {
     let y0 = [3u64, 13, 23];
     let z0 = [10u64, 15, 20];
     let mut out0 = [0u64; 3];
-    lend::clamp(b"clamp", ElementType::I32, &x0, &y0, &z0, &mut out0);
+    shown_elements::clamp(b"clamp", ElementType::I32, &x0, &y0, &z0, &mut out0);
     let x1 = [5u64];
     let y1 = [4u64];
     let z1 = [3u64];
     let mut out1 = [0u64; 1];
-    lend::clamp(b"clamp", ElementType::I32, &x1, &y1, &z1, &mut out1);
+    shown_elements::clamp(b"clamp", ElementType::I32, &x1, &y1, &z1, &mut out1);
 }

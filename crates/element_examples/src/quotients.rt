@@ -1,5 +1,4 @@
 // Quotients and remainders. A slot of a negative number is its 64-bit pattern.
-use crate::lend;
 use division::Division;
 use element::ElementType;
 
@@ -8,7 +7,7 @@ pub fn divide_examples() {
     let x = [17u64, 18446744073709551599, 17, 18446744073709551599];
     let y = [3u64, 3, 18446744073709551613, 18446744073709551613];
     let mut out = [0u64; 4];
-    lend::division(
+    shown_elements::division(
         b"divide",
         Division::Divide,
         ElementType::I32,
@@ -19,7 +18,7 @@ pub fn divide_examples() {
     let lowest = [18446744073709551488u64];
     let minus_one = [18446744073709551615u64];
     let mut one = [0u64; 1];
-    lend::division(
+    shown_elements::division(
         b"divide",
         Division::Divide,
         ElementType::I8,
@@ -34,7 +33,7 @@ pub fn remainder_examples() {
     let x = [17u64, 18446744073709551599, 17, 18446744073709551599];
     let y = [3u64, 3, 18446744073709551613, 18446744073709551613];
     let mut out = [0u64; 4];
-    lend::division(
+    shown_elements::division(
         b"remainder",
         Division::Remainder,
         ElementType::I32,
@@ -45,7 +44,7 @@ pub fn remainder_examples() {
     let lowest = [18446744073709551488u64];
     let minus_one = [18446744073709551615u64];
     let mut one = [0u64; 1];
-    lend::division(
+    shown_elements::division(
         b"remainder",
         Division::Remainder,
         ElementType::I8,

@@ -1,5 +1,4 @@
 // Reductions.
-use crate::movers;
 use element::ElementType;
 use scalar::Body;
 use shape::Shape;
@@ -8,7 +7,7 @@ use shape::Shape;
 pub fn sums_examples() {
     let x0 = [0u64, 1, 2, 3, 4, 5];
     let mut out0 = [0u64; 1];
-    movers::reduce(
+    shown_shapes::reduce(
         b"reduce",
         Body::Add,
         ElementType::I64,
@@ -28,7 +27,7 @@ pub fn sums_examples() {
     );
     let x1 = [1u64, 2, 3, 4, 5, 6];
     let mut out1 = [0u64; 2];
-    movers::reduce(
+    shown_shapes::reduce(
         b"reduce",
         Body::Add,
         ElementType::I32,
@@ -52,7 +51,7 @@ pub fn sums_examples() {
 pub fn bodies_examples() {
     let x0 = [1u64, 2, 3, 4, 5, 6];
     let mut out0 = [0u64; 3];
-    movers::reduce(
+    shown_shapes::reduce(
         b"reduce",
         Body::Multiply,
         ElementType::I32,
@@ -72,7 +71,7 @@ pub fn bodies_examples() {
     );
     let x1 = [1u64, 2, 3, 4, 5, 6];
     let mut out1 = [0u64; 2];
-    movers::reduce(
+    shown_shapes::reduce(
         b"reduce",
         Body::Maximum,
         ElementType::I8,
@@ -92,7 +91,7 @@ pub fn bodies_examples() {
     );
     let x2 = [1u64, 2, 3, 4, 5, 6];
     let mut out2 = [0u64; 2];
-    movers::reduce(
+    shown_shapes::reduce(
         b"reduce",
         Body::Minimum,
         ElementType::I8,
@@ -112,7 +111,7 @@ pub fn bodies_examples() {
     );
     let x3 = [1u64, 2, 3, 4, 5, 6];
     let mut out3 = [0u64; 1];
-    movers::reduce(
+    shown_shapes::reduce(
         b"reduce",
         Body::And,
         ElementType::I32,
@@ -132,7 +131,7 @@ pub fn bodies_examples() {
     );
     let x4 = [1u64, 2, 3, 4, 5, 6];
     let mut out4 = [0u64; 2];
-    movers::reduce(
+    shown_shapes::reduce(
         b"reduce",
         Body::Or,
         ElementType::I32,
@@ -152,7 +151,7 @@ pub fn bodies_examples() {
     );
     let x5 = [1u64, 2, 3, 4, 5, 6];
     let mut out5 = [0u64; 3];
-    movers::reduce(
+    shown_shapes::reduce(
         b"reduce",
         Body::Xor,
         ElementType::I32,

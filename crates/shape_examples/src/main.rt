@@ -1,7 +1,6 @@
 // Runs the proved ops that work shape by shape on the examples of 01 and of 000, as examples/shape_ops.mlir has them, and writes their results.
 mod folded;
 mod moved;
-mod movers;
 mod parts;
 
 fn run_moved() {

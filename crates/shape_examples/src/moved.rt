@@ -1,12 +1,11 @@
 // Ops that move elements. A shape is its rank and its sizes, zeros behind them.
-use crate::movers;
 use element::ElementType;
 use shape::Shape;
 
 // iota: 000, along 0 and along 1
 pub fn iota_examples() {
     let mut out0 = [0u64; 20];
-    movers::iota(
+    shown_shapes::iota(
         b"iota",
         ElementType::I32,
         0,
@@ -17,7 +16,7 @@ pub fn iota_examples() {
         &mut out0,
     );
     let mut out1 = [0u64; 20];
-    movers::iota(
+    shown_shapes::iota(
         b"iota",
         ElementType::I32,
         1,
@@ -33,7 +32,7 @@ pub fn iota_examples() {
 pub fn reshape_examples() {
     let x = [1u64, 2, 3, 4, 5, 6];
     let mut out = [0u64; 6];
-    movers::reshape(
+    shown_shapes::reshape(
         b"reshape",
         &x,
         Shape {
@@ -52,7 +51,7 @@ pub fn reshape_examples() {
 pub fn transpose_examples() {
     let x0 = [1u64, 2, 3, 4, 5, 6, 7, 8, 9, 10, 11, 12];
     let mut out0 = [0u64; 12];
-    movers::transpose(
+    shown_shapes::transpose(
         b"transpose",
         &x0,
         Shape {
@@ -68,7 +67,7 @@ pub fn transpose_examples() {
     );
     let x1 = [1u64, 2, 3, 4, 5, 6, 7, 8, 9, 10, 11, 12];
     let mut out1 = [0u64; 12];
-    movers::transpose(
+    shown_shapes::transpose(
         b"transpose",
         &x1,
         Shape {
@@ -88,7 +87,7 @@ pub fn transpose_examples() {
 pub fn reverse_examples() {
     let x = [1u64, 2, 3, 4, 5, 6];
     let mut out = [0u64; 6];
-    movers::reverse(
+    shown_shapes::reverse(
         b"reverse",
         &x,
         Shape {
@@ -105,7 +104,7 @@ pub fn reverse_examples() {
 pub fn broadcast_in_dim_examples() {
     let x = [1u64, 2, 3];
     let mut out = [0u64; 12];
-    movers::broadcast_in_dim(
+    shown_shapes::broadcast_in_dim(
         b"broadcast_in_dim",
         &x,
         Shape {

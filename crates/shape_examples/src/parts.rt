@@ -1,5 +1,4 @@
 // Ops that take a part of a tensor, or put parts together.
-use crate::movers;
 use element::ElementType;
 use shape::Shape;
 
@@ -7,7 +6,7 @@ use shape::Shape;
 pub fn slice_examples() {
     let x = [0u64, 1, 2, 3, 4];
     let mut out = [0u64; 2];
-    movers::slice(
+    shown_shapes::slice(
         b"slice",
         &x,
         Shape {
@@ -25,7 +24,7 @@ pub fn slice_examples() {
     );
     let y = [0u64, 0, 0, 0, 0, 0, 1, 1, 0, 0, 1, 1];
     let mut part = [0u64; 4];
-    movers::slice(
+    shown_shapes::slice(
         b"slice",
         &y,
         Shape {
@@ -47,7 +46,7 @@ pub fn slice_examples() {
 pub fn pad_examples() {
     let x = [1u64, 2, 3];
     let mut out = [7u64; 6];
-    movers::pad(
+    shown_shapes::pad(
         b"pad",
         &x,
         Shape {
@@ -65,7 +64,7 @@ pub fn pad_examples() {
     );
     let y = [1u64, 2, 3, 4, 5, 6];
     let mut wide = [7u64; 45];
-    movers::pad(
+    shown_shapes::pad(
         b"pad",
         &y,
         Shape {
@@ -87,7 +86,7 @@ pub fn pad_examples() {
 pub fn dynamic_slice_examples() {
     let x = [1650u64, 1675, 1700, 1725];
     let mut last = [0u64; 1];
-    movers::dynamic_slice(
+    shown_shapes::dynamic_slice(
         b"dynamic_slice",
         &x,
         Shape {
@@ -103,7 +102,7 @@ pub fn dynamic_slice_examples() {
         &mut last,
     );
     let mut first = [0u64; 1];
-    movers::dynamic_slice(
+    shown_shapes::dynamic_slice(
         b"dynamic_slice",
         &x,
         Shape {
@@ -120,7 +119,7 @@ pub fn dynamic_slice_examples() {
     );
     let y = [0u64, 0, 1, 1, 0, 0, 1, 1, 0, 0, 0, 0, 0, 0, 0, 0];
     let mut part = [0u64; 4];
-    movers::dynamic_slice(
+    shown_shapes::dynamic_slice(
         b"dynamic_slice",
         &y,
         Shape {
@@ -162,7 +161,7 @@ pub fn concatenate_examples() {
     ];
     let places = [0usize, 6, 0, 0, 0, 0, 0, 0];
     let mut out = [0u64; 8];
-    movers::concatenate(
+    shown_shapes::concatenate(
         b"concatenate",
         &x,
         0,

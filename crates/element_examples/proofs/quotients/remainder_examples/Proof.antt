@@ -7,7 +7,7 @@ use Rattle.element_examples.proofs.quotients.remainder_examples.Stateme
 use Rattle.element_examples.proofs.quotients.remainder_examples.Tie as tie
 use Rattle.element_examples.proofs.quotients.remainder_examples.Reads as reads
 use Rattle.element_examples.proofs.quotients.remainder_examples.Lts as lts
-use Rattle.element_examples.proofs.lend.division.Reads as division-reads
+use Rattle.shown_elements.proofs.division.Reads as division-reads
 
 slice-aggregate-division : tie.Need-slice-aggregate-division
 slice-aggregate-division c = search needs

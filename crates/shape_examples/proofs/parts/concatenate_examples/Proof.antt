@@ -7,7 +7,7 @@ use Rattle.shape_examples.proofs.parts.concatenate_examples.Statement.{
 use Rattle.shape_examples.proofs.parts.concatenate_examples.Tie as tie
 use Rattle.shape_examples.proofs.parts.concatenate_examples.Reads as reads
 use Rattle.shape_examples.proofs.parts.concatenate_examples.Lts as lts
-use Rattle.shape_examples.proofs.movers.concatenate.Reads as concatenate-reads
+use Rattle.shown_shapes.proofs.concatenate.Reads as concatenate-reads
 
 slice-aggregate-concatenate : tie.Need-slice-aggregate-concatenate
 slice-aggregate-concatenate c = search needs

@@ -7,7 +7,7 @@ use Rattle.shape_examples.proofs.parts.dynamic_slice_examples.Statement
 use Rattle.shape_examples.proofs.parts.dynamic_slice_examples.Tie as tie
 use Rattle.shape_examples.proofs.parts.dynamic_slice_examples.Reads as reads
 use Rattle.shape_examples.proofs.parts.dynamic_slice_examples.Lts as lts
-use Rattle.shape_examples.proofs.movers.dynamic_slice.Reads as dynamic-slice-reads
+use Rattle.shown_shapes.proofs.dynamic_slice.Reads as dynamic-slice-reads
 
 slice-aggregate-dynamic-slice : tie.Need-slice-aggregate-dynamic-slice
 slice-aggregate-dynamic-slice c = search needs

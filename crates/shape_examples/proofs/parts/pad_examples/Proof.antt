@@ -7,7 +7,7 @@ use Rattle.shape_examples.proofs.parts.pad_examples.Statement.{statemen
 use Rattle.shape_examples.proofs.parts.pad_examples.Tie as tie
 use Rattle.shape_examples.proofs.parts.pad_examples.Reads as reads
 use Rattle.shape_examples.proofs.parts.pad_examples.Lts as lts
-use Rattle.shape_examples.proofs.movers.pad.Reads as pad-reads
+use Rattle.shown_shapes.proofs.pad.Reads as pad-reads
 
 slice-aggregate-pad : tie.Need-slice-aggregate-pad
 slice-aggregate-pad c = search needs

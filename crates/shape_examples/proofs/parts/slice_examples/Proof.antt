@@ -7,7 +7,7 @@ use Rattle.shape_examples.proofs.parts.slice_examples.Statement.{statem
 use Rattle.shape_examples.proofs.parts.slice_examples.Tie as tie
 use Rattle.shape_examples.proofs.parts.slice_examples.Reads as reads
 use Rattle.shape_examples.proofs.parts.slice_examples.Lts as lts
-use Rattle.shape_examples.proofs.movers.slice.Reads as slice-reads
+use Rattle.shown_shapes.proofs.slice.Reads as slice-reads
 
 slice-aggregate-slice : tie.Need-slice-aggregate-slice
 slice-aggregate-slice c = search needs

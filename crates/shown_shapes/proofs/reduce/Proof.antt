@@ -1,0 +1,19 @@
+use borrow.Author.Needs.{needs}
+use Rattle.shown_shapes.proofs.reduce.Statement.{statement}
+use Rattle.shown_shapes.proofs.reduce.Tie as tie
+use Rattle.shown_shapes.proofs.FitLaw.{reduced-stretches}
+
+reduce-requires : tie.Need-reduce-requires
+reduce-requires c κs = reduced-stretches _ _ _ _ (c .before .before .before .before .pre .0) (c .before .before .before .before .pre .1) _ (c .before .before .before .before .pre .2)
+
+show-requires : tie.Need-show-requires
+show-requires c κs = search needs
+
+same-length : tie.Need-same-length
+same-length c = search needs
+
+returns : tie.Need-returns
+returns c = search needs
+
+pub reduce-spec : {M : Type 1} → statement M
+reduce-spec = tie.close (tie.spec reduce-requires show-requires same-length returns)
