@@ -5,25 +5,68 @@
 
 use evaluator::Answer;
 
+/// An exported function of the crate `bench`, `(text: &[u8], place: &mut [u64]) -> u64`: the refusal is the result,
+/// A and B go to the first two slots of `place`.
+type Exported = unsafe extern "C" fn(*const u8, usize, *mut u64, usize) -> u64;
+
 extern "C" {
-    /// `judge_text(text: &[u8], place: &mut [u64]) -> u64` of the crate `judge_c`: the refusal is the result,
-    /// A and B go to the first two slots of `place`.
-    fn judge_text(text: *const u8, text_length: usize, place: *mut u64, place_length: usize) -> u64;
+    fn bench_check(text: *const u8, text_length: usize, place: *mut u64, place_length: usize) -> u64;
+    fn bench_read(text: *const u8, text_length: usize, place: *mut u64, place_length: usize) -> u64;
 }
 
-/// Refusals 0 to 4 of a text, by the proved code.
-pub fn judge(text: &[u8]) -> Answer {
+/// How far a text is judged.
+#[derive(Clone, Copy)]
+pub enum Depth {
+    /// Refusals 0 to 4.
+    Read,
+    /// Refusals 0 to 8.
+    Check,
+}
+
+impl Depth {
+    fn exported(self) -> Exported {
+        match self {
+            Depth::Read => bench_read,
+            Depth::Check => bench_check,
+        }
+    }
+
+    /// The last refusal of this depth: a text that is refused later, or not at all, has none.
+    fn last(self) -> u64 {
+        match self {
+            Depth::Read => 4,
+            Depth::Check => 8,
+        }
+    }
+}
+
+/// The answer of the proved code.
+pub fn proved(depth: Depth, text: &[u8]) -> Answer {
     let mut place = [0u64; 2];
     // SAFETY: both slices are valid for the call, and the function has no `requires`.
-    let refusal = unsafe { judge_text(text.as_ptr(), text.len(), place.as_mut_ptr(), place.len()) };
+    let refusal = unsafe { depth.exported()(text.as_ptr(), text.len(), place.as_mut_ptr(), place.len()) };
     Answer { refusal, a: place[0], b: place[1] }
 }
 
-/// What the second evaluator answers up to refusal 4: a text that it refuses later, or accepts, has no such refusal.
-pub fn expected(text: &[u8]) -> Answer {
+/// The answer of the second evaluator, up to the depth's last refusal.
+pub fn expected(depth: Depth, text: &[u8]) -> Answer {
     let answer = evaluator::check(text);
-    if answer.refusal <= 4 {
+    if answer.refusal <= depth.last() {
         return answer;
     }
-    Answer { refusal: 0, a: 0, b: 0 }
+    Answer::ACCEPTED
+}
+
+/// The memory that is lent for A and B: too short it stays as it was, and further slots never change.
+pub fn place_kept(text: &[u8], length: usize) -> bool {
+    let answer = proved(Depth::Check, text);
+    let mut place = vec![u64::MAX; length];
+    // SAFETY: as above.
+    let refusal = unsafe { bench_check(text.as_ptr(), text.len(), place.as_mut_ptr(), place.len()) };
+    let mut wanted = vec![u64::MAX; length];
+    if length >= 2 {
+        wanted[0] = answer.a;
+        wanted[1] = answer.b;
+    }
+    refusal == answer.refusal && place == wanted
 }

@@ -1,12 +1,15 @@
 //! Runs the proved library beside the second evaluator.
 //!
-//! `compare stream`: cases in the stream form on standard input, a line `REFUSAL A B` for each, by the proved code.
-//! `compare judge SEED COUNT`: generated cases, the proved code against the second evaluator; status 1 on a difference.
-//! `compare prefixes FOLDER`: every prefix of every `.mlir` file of a folder, likewise.
-//! `compare hostile`: texts made to exhaust a reader, each in a thread with a stack of 2 MiB, with its time; status 1 on
-//! a difference or where one takes a second or more.
+//! `compare stream`: cases in the stream form on standard input, a line `REFUSAL A B` for each, by the proved code: refusals
+//! 0 to 8, so a case whose inputs or store would be refused, or that meets a zero divisor, has 0.
+//! `compare read SEED COUNT`: generated cases, refusals 0 to 4, the proved code against the second evaluator.
+//! `compare check SEED COUNT`: likewise refusals 0 to 8.
+//! `compare prefixes FOLDER`: every prefix of every `.mlir` file of a folder, both ways.
+//! `compare hostile`: texts made to exhaust a reader, both ways, with their time: reading in a thread with a stack of 2 MiB,
+//! checking in one of 8 MiB; each has to end within a second.
+//! All but `stream` end with status 1 on a difference.
 
-use compare::{expected, judge};
+use compare::{expected, place_kept, proved, Depth};
 use evaluator::{cases, stream};
 use std::io::{self, Write};
 use std::process::ExitCode;
@@ -19,10 +22,11 @@ fn main() -> ExitCode {
     let words: Vec<&str> = arguments.iter().map(String::as_str).collect();
     let done = match words[..] {
         ["stream"] => answer_stream(),
-        ["judge", seed, count] => number(seed).and_then(|seed| compare_cases(seed, number(count)?)),
+        ["read", seed, count] => number(seed).and_then(|seed| compare_cases(Depth::Read, seed, number(count)?)),
+        ["check", seed, count] => number(seed).and_then(|seed| compare_cases(Depth::Check, seed, number(count)?)),
         ["prefixes", folder] => compare_prefixes(folder),
         ["hostile"] => run_hostile(),
-        _ => Err("usage: compare stream | judge SEED COUNT | prefixes FOLDER | hostile".to_string()),
+        _ => Err("usage: compare stream | read SEED COUNT | check SEED COUNT | prefixes FOLDER | hostile".to_string()),
     };
     match done {
         Ok(true) => ExitCode::SUCCESS,
@@ -43,7 +47,7 @@ fn answer_stream() -> Result<bool, String> {
     let mut input = io::stdin().lock();
     let mut output = io::BufWriter::new(io::stdout().lock());
     while let Some(case) = stream::read_case(&mut input)? {
-        let answer = judge(&case.text);
+        let answer = proved(Depth::Check, &case.text);
         writeln!(output, "{} {} {}", answer.refusal, answer.a, answer.b).map_err(|error| error.to_string())?;
     }
     output.flush().map_err(|error| error.to_string())?;
@@ -51,17 +55,20 @@ fn answer_stream() -> Result<bool, String> {
 }
 
 /// Generated cases, one by one.
-fn compare_cases(seed: u64, count: u64) -> Result<bool, String> {
+fn compare_cases(depth: Depth, seed: u64, count: u64) -> Result<bool, String> {
     let mut differences = 0;
+    let mut refusals = [0u64; 9];
     for index in 0..count {
         let case = cases::generate(seed, index).case;
-        let (ours, theirs) = (judge(&case.text), expected(&case.text));
-        if ours != theirs {
+        let (ours, theirs) = (proved(depth, &case.text), expected(depth, &case.text));
+        refusals[theirs.refusal as usize] += 1;
+        let kept = index % 10 != 0 || place_kept(&case.text, (index / 10 % 5) as usize);
+        if ours != theirs || !kept {
             differences += 1;
             println!("case {index} of seed {seed}: proved {ours:?}, second evaluator {theirs:?}");
         }
     }
-    println!("{count} cases of seed {seed}: {differences} differences");
+    println!("{count} cases of seed {seed}: {differences} differences; cases by refusal from 0 on: {refusals:?}");
     Ok(differences == 0)
 }
 
@@ -75,11 +82,13 @@ fn compare_prefixes(folder: &str) -> Result<bool, String> {
         }
         let text = std::fs::read(&path).map_err(|error| format!("{}: {error}", path.display()))?;
         for length in 0..=text.len() {
-            let (ours, theirs) = (judge(&text[..length]), expected(&text[..length]));
             texts += 1;
-            if ours != theirs {
-                differences += 1;
-                println!("{} cut to {length} bytes: proved {ours:?}, second evaluator {theirs:?}", path.display());
+            for depth in [Depth::Read, Depth::Check] {
+                let (ours, theirs) = (proved(depth, &text[..length]), expected(depth, &text[..length]));
+                if ours != theirs {
+                    differences += 1;
+                    println!("{} cut to {length} bytes: proved {ours:?}, second evaluator {theirs:?}", path.display());
+                }
             }
         }
     }
@@ -87,33 +96,35 @@ fn compare_prefixes(folder: &str) -> Result<bool, String> {
     Ok(texts > 0 && differences == 0)
 }
 
-/// Every hostile text, on a small stack.
+/// Every hostile text, on small stacks.
 fn run_hostile() -> Result<bool, String> {
     let mut fine = true;
     for (name, text) in hostile::texts() {
-        let theirs = expected(&text);
-        let length = text.len();
-        let (ours, time) = on_small_stack(text)?;
-        let right = ours == theirs && time < Duration::from_secs(1);
-        fine &= right;
-        println!(
-            "{name}: {length} bytes, {} {} {}, {:.3} s{}",
-            ours.refusal,
-            ours.a,
-            ours.b,
-            time.as_secs_f64(),
-            if right { "" } else { ": WRONG" }
-        );
+        for (depth, word, stack) in [(Depth::Read, "read", 2 << 20), (Depth::Check, "checked", 8 << 20)] {
+            let theirs = expected(depth, &text);
+            let (ours, time) = on_stack(stack, depth, text.clone())?;
+            let right = ours == theirs && time < Duration::from_secs(1);
+            fine &= right;
+            println!(
+                "{name}: {} bytes, {word}: {} {} {}, {:.3} s{}",
+                text.len(),
+                ours.refusal,
+                ours.a,
+                ours.b,
+                time.as_secs_f64(),
+                if right { "" } else { ": WRONG" }
+            );
+        }
     }
     Ok(fine)
 }
 
-/// Judges a text in a thread with a stack of 2 MiB.
-fn on_small_stack(text: Vec<u8>) -> Result<(evaluator::Answer, Duration), String> {
+/// Judges a text in a thread with a stack of so many bytes.
+fn on_stack(bytes: usize, depth: Depth, text: Vec<u8>) -> Result<(evaluator::Answer, Duration), String> {
     let run = move || {
         let from = Instant::now();
-        (judge(&text), from.elapsed())
+        (proved(depth, &text), from.elapsed())
     };
-    let thread = std::thread::Builder::new().stack_size(2 << 20).spawn(run).map_err(|error| error.to_string())?;
+    let thread = std::thread::Builder::new().stack_size(bytes).spawn(run).map_err(|error| error.to_string())?;
     thread.join().map_err(|_| "a thread failed".to_string())
 }

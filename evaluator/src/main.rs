@@ -4,7 +4,8 @@ use evaluator::{cases, coverage, freecheck, print, stream};
 use std::io::{BufRead, Read, Write};
 use std::process::ExitCode;
 
-const USAGE: &str = "usage: evaluator evaluate | ops | stream | cases SEED COUNT | coverage SEED COUNT | free SEED COUNT";
+const USAGE: &str =
+    "usage: evaluator evaluate | ops [all] | stream | cases SEED COUNT | coverage SEED COUNT | free SEED COUNT";
 
 fn main() -> ExitCode {
     let arguments: Vec<String> = std::env::args_os().skip(1).map(|word| word.to_string_lossy().into_owned()).collect();
@@ -23,7 +24,7 @@ fn command(arguments: &[String]) -> Result<u8, String> {
     let rest = &arguments[1..];
     match name.as_str() {
         "evaluate" => no_arguments(rest).and_then(|()| evaluate()),
-        "ops" => no_arguments(rest).and_then(|()| list_ops()),
+        "ops" => list_ops(rest),
         "stream" => no_arguments(rest).and_then(|()| answer_stream()),
         "cases" => cases::command(rest),
         "coverage" => coverage::command(rest),
@@ -50,11 +51,17 @@ fn evaluate() -> Result<u8, String> {
     Ok(0)
 }
 
-/// The result of every op of a text without inputs; a text that is refused is bad input.
-fn list_ops() -> Result<u8, String> {
+/// The result of every op of a text without inputs, of its constants only with the word `all`; a text
+/// that is refused is bad input.
+fn list_ops(rest: &[String]) -> Result<u8, String> {
+    let constants = match rest {
+        [] => false,
+        [word] if word == "all" => true,
+        _ => return Err(USAGE.to_string()),
+    };
     let mut text = Vec::new();
     std::io::stdin().lock().read_to_end(&mut text).map_err(|error| error.to_string())?;
-    write_all(print::op_lines(&text)?.as_bytes())?;
+    write_all(print::op_lines(&text, constants)?.as_bytes())?;
     Ok(0)
 }
 

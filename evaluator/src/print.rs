@@ -18,9 +18,10 @@ pub fn program_output(text: &[u8]) -> String {
     }
 }
 
-/// One line for every op but the constants, in text order: the mnemonic, then the slots of its
-/// result in decimal, single spaces. The text has no inputs; the error is the refusal.
-pub fn op_lines(text: &[u8]) -> Result<String, String> {
+/// One line for every op, for constants only where they are asked for, in text order: the mnemonic,
+/// then the slots of its result in decimal, single spaces. The text has no inputs; the error is the
+/// refusal.
+pub fn op_lines(text: &[u8], constants: bool) -> Result<String, String> {
     let mut slots = vec![0; sizes::ELEMENTS];
     let refused = |answer: Answer| format!("the text is refused: {} {} {}", answer.refusal, answer.a, answer.b);
     let program = crate::accept(text).map_err(refused)?;
@@ -33,7 +34,7 @@ pub fn op_lines(text: &[u8]) -> Result<String, String> {
     for op in &program.ops {
         let stretch = &slots[at..at + op.result_types[0].elements()];
         at += stretch.len();
-        if op.mnemonic != Mnemonic::Constant {
+        if constants || op.mnemonic != Mnemonic::Constant {
             let words: Vec<String> = stretch.iter().map(|slot| format!(" {slot}")).collect();
             let name = op.mnemonic.name().trim_start_matches("stablehlo.");
             lines += &format!("{name}{}\n", words.concat());

@@ -1,2 +1,1 @@
 pub mod ApplyLaw
-pub mod NodeLaw

@@ -16,7 +16,7 @@ use Rattle.ops.specs.declared.Move.{Move}
 use Rattle.ops.specs.declared.Move.the-variants.{Reshape, BroadcastInDim, Transpose, Slice, Reverse}
 use Rattle.ops.specs.declared.Kind.{Kind}
 use Rattle.ops.specs.declared.Kind.the-variants.{Constant, Iota, Elementwise, Pairwise, Quotient, Compare, Convert, Select, Clamp, Moved, Pad, Concatenate, DynamicSlice, Reduce}
-use Rattle.ops.specs.Ops.{Node, operandElement, operandDims, wayOf, hlo}
+use Rattle.ops.specs.Ops.{Node, wayOf, hlo}
 use Rattle.apply.specs.declared.Task.{Task}
 
 -- the op of a task; the dimensions of operand 1 play no part in what it gives
@@ -54,20 +54,6 @@ tensorsOf k (Reduce body) starts x y z = x ∷ y ∷ z ∷ []
 -- what the op gives
 abbrev pub outcome : Task → Kind → List ℕ → Tensor → Tensor → Tensor → Out Tensor ℕ
 outcome k kind starts x y z = byFold hlo (wayOf (nodeOf k) kind (tensorsOf k kind starts x y z))
-
--- the task k does the op o on args: what an op lacks reads as in noType and as no elements
-pub record Does (k : Task) (o : Node) (starts : List ℕ) (x y z : Tensor) (args : List Tensor) : Type 0 where
-  pub result : o .result ≡ record { element = k .element; dims = dimsOf (k .to) }
-  pub source : operandElement o 0 ≡ k .source
-  pub index : operandElement o 1 ≡ k .index
-  pub from : operandDims o 0 ≡ dimsOf (k .from)
-  pub last : operandDims o 2 ≡ dimsOf (k .last)
-  pub first : o .first ≡ take (k .count) (k .first)
-  pub second : o .second ≡ take (k .from .rank) (k .second)
-  pub operand-0 : getD args 0 [] ≡ x
-  pub operand-1 : getD args 1 [] ≡ y
-  pub operand-2 : getD args 2 [] ≡ z
-  pub starting : map (λ s. getD s 0 0) (drop 1 args) ≡ take (k .from .rank) starts
 
 -- What is asked: the stretches fit their shapes, and 000's constraints hold where the work needs them.
 abbrev pub MoveReady : Task → Move → Tensor → List ℕ → Type 0

@@ -36,7 +36,7 @@ fn name_at(text: &[u8], a: usize) -> Name
 }
 
 // Whether one name stands at both places.
-fn same_at(text: &[u8], a: usize, b: usize) -> bool
+pub fn same_at(text: &[u8], a: usize, b: usize) -> bool
     ensures { λ r. ⌜ r ≡ sameAt (now (text .entry)) a b ⌝ }
 {
     same_name(text, name_at(text, a), name_at(text, b))

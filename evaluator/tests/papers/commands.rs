@@ -45,16 +45,21 @@ fn evaluate_prints_results_or_refused() {
 }
 
 #[test]
-fn ops_prints_a_line_for_every_op_but_constants() {
+fn ops_prints_a_line_for_every_op_and_for_constants_where_asked() {
     let text = "func.func @m() {\n%a = \"stablehlo.constant\"() {value = dense<[1, -3]> : tensor<2xi8>} : () -> tensor<2xi8>\n\
                 %n = \"stablehlo.negate\"(%a) : (tensor<2xi8>) -> tensor<2xi8>\n\
                 %s = \"stablehlo.sign\"(%a) : (tensor<2xi8>) -> tensor<2xi8>\n\"func.return\"() : () -> ()}";
     let output = program(&["ops"], text.as_bytes());
     assert_eq!(output.stdout, b"negate 18446744073709551615 3\nsign 1 18446744073709551615\n");
     assert_eq!((output.status.code(), output.stderr.len()), (Some(0), 0));
+    let output = program(&["ops", "all"], text.as_bytes());
+    let lines = b"constant 1 18446744073709551613\nnegate 18446744073709551615 3\nsign 1 18446744073709551615\n";
+    assert_eq!(output.stdout, lines);
+    assert_eq!((output.status.code(), output.stderr.len()), (Some(0), 0));
     // A text that is refused, by its grammar or for its inputs, is bad input.
     for text in ["", "func.func @m(%a: tensor<2xi8>) {\n\"func.return\"() : () -> ()}"] {
         assert!(refused(&["ops"], text.as_bytes()).stdout.is_empty());
+        assert!(refused(&["ops", "all"], text.as_bytes()).stdout.is_empty());
     }
 }
 
@@ -66,6 +71,7 @@ fn bad_arguments() {
         &["evaluate", "x"],
         &["stream", "1"],
         &["ops", "x"],
+        &["ops", "all", "all"],
         &[""],
         &["cases"],
         &["cases", "1"],

@@ -1,0 +1,2 @@
+pub mod AttributesLaw
+pub mod Examples

@@ -1,0 +1,2 @@
+pub mod BodiesLaw
+pub mod Examples

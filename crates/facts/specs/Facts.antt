@@ -1,0 +1,274 @@
+-- An accepted op by its class: what reading, 000's tables and its constraints grant of it; and the op and the task that evaluating takes.
+-- Assumes nothing.
+use mathlib.Core.Path.{_≡_}
+use mathlib.Core.Bool.{Bool, true, false}
+use mathlib.Core.List.{List, [], _∷_}
+use Prim.Native.Nat.{ℕ, _≤_, _<_}
+use lib.ListN.{length, take, getD}
+use Rattle.lists.specs.Lists.{tab}
+use Rattle.element.specs.declared.ElementType.the-variants.{I1}
+use Rattle.division.specs.declared.Division.the-variants.{Divide, Remainder}
+use Rattle.scalar.specs.declared.Unary.{Unary}
+use Rattle.scalar.specs.declared.Unary.the-variants.{Negate, Abs, Sign, Not, CountLeadingZeros, Popcnt}
+use Rattle.scalar.specs.declared.Binary.the-variants.{Add, Subtract, Multiply, Maximum, Minimum, And, Or, Xor, ShiftLeft, ShiftRightArithmetic, ShiftRightLogical}
+use Rattle.scalar.specs.declared.Direction.{Direction}
+use Rattle.scalar.specs.declared.Body.{Body}
+use Rattle.shape.specs.Dims.{dimsOf, Sized, Fills}
+use Rattle.shape.specs.declared.Shape.{Shape}
+use Rattle.elementwise.specs.Elementwise.{Tensor}
+use Rattle.ops.specs.declared.Move.{Move}
+use Rattle.ops.specs.declared.Move.the-variants.{Reshape, BroadcastInDim, Transpose, Slice, Reverse}
+use Rattle.ops.specs.declared.Kind.{Kind}
+use Rattle.ops.specs.declared.Kind.the-variants.{Constant, Iota, Elementwise, Pairwise, Quotient, Compare, Convert, Select, Clamp, Moved, Pad, Concatenate, DynamicSlice, Reduce}
+use Rattle.ops.specs.Ops.{Node, TensorType as NodeType}
+use Rattle.apply.specs.declared.Task.{Task}
+use Rattle.optable.specs.declared.Takes.{Takes}
+use Rattle.optable.specs.declared.Takes.the-variants.{Any, Integer, Signed, Boolean}
+use Rattle.optable.specs.declared.Row.{Row}
+use Rattle.optable.specs.declared.Rule.{Rule}
+use Rattle.optable.specs.declared.Rule.the-variants.{SameTypes, Abs as AbsRule, Broadcast as BroadcastRule, Clamp as ClampRule, Compare as CompareRule, Concatenate as ConcatenateRule, Constant as ConstantRule, Convert as ConvertRule, DynamicSlice as DynamicSliceRule, Iota as IotaRule, Pad as PadRule, Reduce as ReduceRule, Reshape as ReshapeRule, Reverse as ReverseRule, Select as SelectRule, Slice as SliceRule, Transpose as TransposeRule}
+use Rattle.dimrules.specs.Dims.{listOf}
+use Rattle.dimrules.specs.Types.{typeAt}
+use Rattle.dimrules.specs.declared.TensorType.{TensorType}
+use Rattle.dimrules.specs.declared.Numbers.{Numbers}
+use Rattle.opcheck.specs.declared.Operation.{Operation}
+use Rattle.opcheck.specs.Accepted.{Granted}
+
+-- ---- what reading grants
+
+-- the array of its dimensions is of six numbers
+abbrev pub SixDims : Shape → Type 0
+SixDims s = length (s .dims) ≡ 6
+
+-- a shape that was read: within sizes 1 and 2 of 01
+pub record ShapeRead (s : Shape) : Type 0 where
+  pub sized : Sized s
+  pub six : SixDims s
+
+-- an attribute list that was read: within size 6 of 01
+pub record ListRead (a : Numbers) : Type 0 where
+  pub few : a .count ≤ 6
+  pub six : length (a .list) ≡ 6
+
+-- every type and every attribute list of an op, and the number of its operands (size 5 of 01), as they were read
+pub record Shaped (o : Operation) : Type 0 where
+  pub arity : o .arity ≤ 8
+  pub eight : length (o .types) ≡ 8
+  pub types : (j : ℕ) → j < 8 → ShapeRead (typeAt (o .types) j .shape)
+  pub result : ShapeRead (o .result .shape)
+  pub value : ShapeRead (o .value .shape)
+  pub left : ShapeRead (o .left .shape)
+  pub right : ShapeRead (o .right .shape)
+  pub a : ListRead (o .a)
+  pub b : ListRead (o .b)
+  pub c : ListRead (o .c)
+
+-- ---- an op's class, its row of the op table and its constraints
+
+-- abs has its constraint in two parts, C1 and C2
+abbrev pub unaryRule : Unary → Rule
+unaryRule Abs = AbsRule
+unaryRule Negate = SameTypes
+unaryRule Sign = SameTypes
+unaryRule Not = SameTypes
+unaryRule CountLeadingZeros = SameTypes
+unaryRule Popcnt = SameTypes
+
+-- each move has constraints of its own
+abbrev pub moveRule : Move → Rule
+moveRule Reshape = ReshapeRule
+moveRule BroadcastInDim = BroadcastRule
+moveRule Transpose = TransposeRule
+moveRule Slice = SliceRule
+moveRule Reverse = ReverseRule
+
+-- the class of constraints
+abbrev pub ruleOf : Kind → Rule
+ruleOf Constant = ConstantRule
+ruleOf Iota = IotaRule
+ruleOf (Elementwise op) = unaryRule op
+ruleOf (Pairwise op) = SameTypes
+ruleOf (Quotient op) = SameTypes
+ruleOf (Compare d) = CompareRule
+ruleOf Convert = ConvertRule
+ruleOf Select = SelectRule
+ruleOf Clamp = ClampRule
+ruleOf (Moved m) = moveRule m
+ruleOf Pad = PadRule
+ruleOf Concatenate = ConcatenateRule
+ruleOf DynamicSlice = DynamicSliceRule
+ruleOf (Reduce body) = ReduceRule
+
+-- the least and the most operands: "concatenate: any, none breaks C3; dynamic_slice: from 1" (01, refusal 7), at most 8 (01, "Sizes", 5)
+abbrev pub operandsOf : Kind → ℕ × ℕ
+operandsOf Constant = (0, 0)
+operandsOf Iota = (0, 0)
+operandsOf (Elementwise op) = (1, 1)
+operandsOf (Pairwise op) = (2, 2)
+operandsOf (Quotient op) = (2, 2)
+operandsOf (Compare d) = (2, 2)
+operandsOf Convert = (1, 1)
+operandsOf Select = (3, 3)
+operandsOf Clamp = (3, 3)
+operandsOf (Moved m) = (1, 1)
+operandsOf Pad = (2, 2)
+operandsOf Concatenate = (0, 8)
+operandsOf DynamicSlice = (1, 8)
+operandsOf (Reduce body) = (2, 2)
+
+-- every operand but the first is "0-dimensional" in 000's tables: dynamic_slice's start_indices, pad's padding_value, reduce's init_values
+abbrev pub scalarsOf : Kind → Bool
+scalarsOf Constant = false
+scalarsOf Iota = false
+scalarsOf (Elementwise op) = false
+scalarsOf (Pairwise op) = false
+scalarsOf (Quotient op) = false
+scalarsOf (Compare d) = false
+scalarsOf Convert = false
+scalarsOf Select = false
+scalarsOf Clamp = false
+scalarsOf (Moved m) = false
+scalarsOf Pad = true
+scalarsOf Concatenate = false
+scalarsOf DynamicSlice = true
+scalarsOf (Reduce body) = true
+
+-- the result is a "tensor of boolean type" in 000's table
+abbrev pub booleanOf : Kind → Bool
+booleanOf Constant = false
+booleanOf Iota = false
+booleanOf (Elementwise op) = false
+booleanOf (Pairwise op) = false
+booleanOf (Quotient op) = false
+booleanOf (Compare d) = true
+booleanOf Convert = false
+booleanOf Select = false
+booleanOf Clamp = false
+booleanOf (Moved m) = false
+booleanOf Pad = false
+booleanOf Concatenate = false
+booleanOf DynamicSlice = false
+booleanOf (Reduce body) = false
+
+-- so in a row
+abbrev pub isBoolean : Takes → Bool
+isBoolean Any = false
+isBoolean Integer = false
+isBoolean Signed = false
+isBoolean Boolean = true
+
+-- a row of the op table for ops of the class
+pub record RowFor (kind : Kind) (row : Row) : Type 0 where
+  pub rule : row .rule ≡ ruleOf kind
+  pub least : row .least ≡ operandsOf kind .0
+  pub most : row .most ≡ operandsOf kind .1
+  pub scalars : row .scalars ≡ scalarsOf kind
+  pub boolean : isBoolean (row .result) ≡ booleanOf kind
+
+-- the classes of the op table's ops, in its order; of compare and reduce by direction and body
+abbrev pub kindsBy : Direction → Body → List Kind
+kindsBy d body =
+    Elementwise Abs ∷ Pairwise Add ∷ Pairwise And ∷ Moved BroadcastInDim ∷ Clamp ∷ Compare d ∷ Concatenate ∷ Constant ∷ Convert ∷
+    Elementwise CountLeadingZeros ∷ Quotient Divide ∷ DynamicSlice ∷ Iota ∷ Pairwise Maximum ∷ Pairwise Minimum ∷
+    Pairwise Multiply ∷ Elementwise Negate ∷ Elementwise Not ∷ Pairwise Or ∷ Pad ∷ Elementwise Popcnt ∷ Reduce body ∷
+    Quotient Remainder ∷ Moved Reshape ∷ Moved Reverse ∷ Select ∷ Pairwise ShiftLeft ∷ Pairwise ShiftRightArithmetic ∷
+    Pairwise ShiftRightLogical ∷ Elementwise Sign ∷ Moved Slice ∷ Pairwise Subtract ∷ Moved Transpose ∷ Pairwise Xor ∷ []
+
+-- the class of op i of the table
+abbrev pub kindAt : Direction → Body → ℕ → Kind
+kindAt d body i = getD (kindsBy d body) i Constant
+
+-- iota_dimension and dimension are each one number, the first of its list
+abbrev pub OneNumber : Kind → Operation → Type 0
+OneNumber Iota o = o .a .count ≡ 1
+OneNumber Concatenate o = o .a .count ≡ 1
+OneNumber Constant o = Unit {0}
+OneNumber (Elementwise op) o = Unit {0}
+OneNumber (Pairwise op) o = Unit {0}
+OneNumber (Quotient op) o = Unit {0}
+OneNumber (Compare d) o = Unit {0}
+OneNumber Convert o = Unit {0}
+OneNumber Select o = Unit {0}
+OneNumber Clamp o = Unit {0}
+OneNumber (Moved m) o = Unit {0}
+OneNumber Pad o = Unit {0}
+OneNumber DynamicSlice o = Unit {0}
+OneNumber (Reduce body) o = Unit {0}
+
+-- an op that is accepted: as reading, 000's tables (refusal 7) and its constraints (refusal 8) leave it
+pub record AcceptedAs (kind : Kind) (o : Operation) : Type 0 where
+  pub shaped : Shaped o
+  pub number : OneNumber kind o
+  pub least : operandsOf kind .0 ≤ o .arity
+  pub most : o .arity ≤ operandsOf kind .1
+  pub scalars : scalarsOf kind ≡ true → (j : ℕ) → 0 < j → j < o .arity → typeAt (o .types) j .shape .rank ≡ 0
+  pub boolean : booleanOf kind ≡ true → o .result .element ≡ I1
+  pub granted : Granted (ruleOf kind) o
+
+-- ---- what evaluating takes
+
+-- first and second are attributes a and c of the op's row: of slice start_indices and strides, of pad edge_padding_low and interior_padding;
+-- limit is slice's limit_indices
+abbrev pub taskOf : Kind → Operation → Task
+taskOf kind o =
+    record {
+      kind = kind;
+      element = o .result .element;
+      source = typeAt (o .types) 0 .element;
+      index = typeAt (o .types) 1 .element;
+      from = typeAt (o .types) 0 .shape;
+      last = typeAt (o .types) 2 .shape;
+      to = o .result .shape;
+      count = o .a .count;
+      first = o .a .list;
+      second = o .c .list;
+      limit = o .b .list;
+    }
+
+-- a type by the list of its dimensions
+abbrev pub nodeType : TensorType → NodeType
+nodeType t = record { element = t .element; dims = dimsOf (t .shape) }
+
+-- values are a constant's elements, operands the numbers of the values that it reads; of c it has a number for each dimension of operand 0
+-- (C2 of slice and of pad)
+abbrev pub nodeFor : Kind → Operation → Tensor → List ℕ → Node
+nodeFor kind o values operands =
+    record {
+      kind = kind;
+      result = nodeType (o .result);
+      from = tab (o .arity) (λ j. nodeType (typeAt (o .types) j));
+      first = listOf (o .a);
+      second = take (typeAt (o .types) 0 .shape .rank) (o .c .list);
+      values = values;
+      operands = operands;
+    }
+
+-- the classes that a task does; the others have functions of their own
+abbrev pub DoneByTask : Kind → Type 0
+DoneByTask Constant = ⊥
+DoneByTask (Quotient op) = ⊥
+DoneByTask Concatenate = ⊥
+DoneByTask Iota = Unit {0}
+DoneByTask (Elementwise op) = Unit {0}
+DoneByTask (Pairwise op) = Unit {0}
+DoneByTask (Compare d) = Unit {0}
+DoneByTask Convert = Unit {0}
+DoneByTask Select = Unit {0}
+DoneByTask Clamp = Unit {0}
+DoneByTask (Moved m) = Unit {0}
+DoneByTask Pad = Unit {0}
+DoneByTask DynamicSlice = Unit {0}
+DoneByTask (Reduce body) = Unit {0}
+
+-- the stretches of the first three operands, as far as the op has them, and of the result
+pub record Stretched (o : Operation) (x y z out : Tensor) : Type 0 where
+  pub operand-0 : 0 < o .arity → Fills x (typeAt (o .types) 0 .shape)
+  pub operand-1 : 1 < o .arity → Fills y (typeAt (o .types) 1 .shape)
+  pub operand-2 : 2 < o .arity → Fills z (typeAt (o .types) 2 .shape)
+  pub result : Fills out (o .result .shape)
+
+-- of the operands' tensors args, x, y and z are the first three, as far as the op has them
+pub record Arguments (o : Operation) (args : List Tensor) (x y z : Tensor) : Type 0 where
+  pub operand-0 : 0 < o .arity → getD args 0 [] ≡ x
+  pub operand-1 : 1 < o .arity → getD args 1 [] ≡ y
+  pub operand-2 : 2 < o .arity → getD args 2 [] ≡ z

@@ -1,0 +1,16 @@
+use borrow.Author.Tests.{eq-eqb, ne-eqb}
+use Rattle.scope.specs.Scoped.{answered}
+use Rattle.known.specs.Known.{faultOf}
+use Rattle.known.proofs.fault_of.Statement.{statement}
+use Rattle.known.proofs.fault_of.Tie as tie
+
+returns : tie.Need-returns
+unfolding answered faultOf
+returns c = simp (eq-eqb _ _ (c .if1 .taken))
+
+returns-2 : tie.Need-returns-2
+unfolding answered faultOf
+returns-2 c = simp (ne-eqb _ _ (c .if1 .left))
+
+pub fault-of-spec : {M : Type 1} → statement M
+fault-of-spec = tie.close (tie.spec returns returns-2)

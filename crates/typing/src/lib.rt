@@ -1,0 +1,277 @@
+// One op against the values before it, its row of the op table and the header: refusals 7 and 8.
+use bodies::argument_type;
+use bodies::body_fits;
+use bodies::row_named;
+use dimrules::TensorType;
+use dimrules::both;
+use dimrules::same_type;
+use opcheck::Operation;
+use opcheck::broken_by;
+use opcheck::taken_by_tables;
+use optable::Row;
+use optable::op_row;
+use places::Part;
+use places::blank_type;
+use places::count_of;
+use places::place_of;
+use places::type_of;
+use program::Parts;
+use scope::same_at;
+use values::Values;
+ghost use mathlib.Core.Path.{_≡_};
+ghost use Prim.Native.Nat.{_<_, _≤_};
+ghost use lib.Dec.{eqb};
+ghost use Rattle.lists.specs.Lists.{tab, pick};
+ghost use Rattle.dimrules.specs.Count.{firstFailing};
+ghost use Rattle.typing.specs.Typing.{valueNamed, arityOf, operandTyped, operandsTyped, rowOf, typesOf, bodyType, operationOf, resultsAre, bodiesFit, inTable, typedOp, returnedAt, returnsHeader, typedReturn, opJudged, returnJudged};
+
+// A refusal of kind 7 or 8 and its B; refusal 0: none.
+pub struct Judged {
+    pub refusal: usize,
+    pub b: usize,
+}
+
+// The value that the name at byte a stands for, among the first n; n where it stands for none.
+pub fn value_named(text: &[u8], values: Values, n: usize, a: usize) -> usize
+    requires { ⌜ n ≤ 264 ⌝ }
+    ensures { λ r. ⌜ r ≡ valueNamed (now (text .entry)) (values .list) n a ⌝ }
+{
+    let list = values.list;
+    for i in 0..n {
+        let v = list[i];
+        if same_at(text, v.name, a) {
+            return i;
+        }
+    }
+    n
+}
+
+fn arity_of(op: Parts) -> usize
+    ensures { λ r. ⌜ r ≡ arityOf op ⌝ }
+{
+    let n = count_of(op, Part::OPERAND_NAME);
+    if n < 8 { n } else { 8 }
+}
+
+// Whether operand j is defined and its written type is that of its definition.
+fn operand_typed(text: &[u8], op: Parts, values: Values, n: usize, j: usize) -> bool
+    requires { ⌜ (n ≤ 264) × (j < 8) ⌝ }
+    ensures { λ r. ⌜ r ≡ operandTyped (now (text .entry)) op (values .list) n j ⌝ }
+{
+    let i = value_named(text, values, n, place_of(op, Part::OPERAND_NAME, j));
+    let written = type_of(text, op, Part::OPERAND_TYPE, j);
+    if i < n {
+        let list = values.list;
+        let v = list[i];
+        let defined = v.ty;
+        return same_type(written, defined);
+    }
+    false
+}
+
+// The first operand that is not; their number where all are.
+pub fn first_untyped(text: &[u8], op: Parts, values: Values, n: usize) -> usize
+    requires { ⌜ n ≤ 264 ⌝ }
+    ensures { λ r. ⌜ r ≡ firstFailing (arityOf op) (operandTyped (now (text .entry)) op (values .list) n) ⌝ }
+{
+    let arity = arity_of(op);
+    for j in 0..arity {
+        if !operand_typed(text, op, values, n, j) {
+            return j;
+        }
+    }
+    arity
+}
+
+fn operands_typed(text: &[u8], op: Parts, values: Values, n: usize) -> bool
+    requires { ⌜ n ≤ 264 ⌝ }
+    ensures { λ r. ⌜ r ≡ operandsTyped (now (text .entry)) op (values .list) n ⌝ }
+{
+    let names = count_of(op, Part::OPERAND_NAME);
+    let types = count_of(op, Part::OPERAND_TYPE);
+    let counted = both(names < 9, types == names);
+    both(counted, first_untyped(text, op, values, n) == arity_of(op))
+}
+
+// The op's row of the op table.
+pub fn row_of(text: &[u8], op: Parts) -> Row
+    ensures { λ r. ⌜ r ≡ rowOf (now (text .entry)) op ⌝ }
+{
+    op_row(row_named(text, place_of(op, Part::OP_NAME, 0)))
+}
+
+fn type_at(text: &[u8], op: Parts, j: usize) -> TensorType
+    requires { ⌜ j < 8 ⌝ }
+    ensures { λ r. ⌜ r ≡ typesOf (now (text .entry)) op j ⌝ }
+{
+    if j < arity_of(op) {
+        return type_of(text, op, Part::OPERAND_TYPE, j);
+    }
+    blank_type()
+}
+
+// The types of its operands as written.
+fn types_of(text: &[u8], op: Parts) -> [TensorType; 8]
+    ensures { λ r. ⌜ r ≡ tab 8 (typesOf (now (text .entry)) op) ⌝ }
+{
+    let none = blank_type();
+    let mut types = [none; 8];
+    for j in 0..8 {
+        let t = type_at(text, op, j);
+        types[j] = t;
+    }
+    types
+}
+
+// The type of argument j of its body.
+fn body_type(text: &[u8], op: Parts, row: Row, j: usize) -> TensorType
+    requires { ⌜ j < 2 ⌝ }
+    ensures { λ r. ⌜ r ≡ bodyType (now (text .entry)) op row j ⌝ }
+{
+    if row.body {
+        return argument_type(text, place_of(op, Part::BODY_OPEN, 0), j);
+    }
+    blank_type()
+}
+
+// What is read of an op.
+pub fn operation_of(text: &[u8], op: Parts, row: Row) -> Operation
+    ensures { λ r. ⌜ r ≡ operationOf (now (text .entry)) op row ⌝ }
+{
+    let arity = arity_of(op);
+    let types = types_of(text, op);
+    let result = type_of(text, op, Part::RESULT_TYPE, 0);
+    let a = attributes::numbers_of(text, op, row.a);
+    let b = attributes::numbers_of(text, op, row.b);
+    let c = attributes::numbers_of(text, op, row.c);
+    let choice = attributes::choice_of(text, op, 14);
+    let value = attributes::dense_type(text, op, 0);
+    let left = body_type(text, op, row, 0);
+    let right = body_type(text, op, row, 1);
+    Operation {
+        arity,
+        types,
+        result,
+        a,
+        b,
+        c,
+        choice,
+        value,
+        left,
+        right,
+    }
+}
+
+fn results_are(n: usize, op: Parts) -> bool
+    ensures { λ r. ⌜ r ≡ resultsAre n op ⌝ }
+{
+    both(
+        count_of(op, Part::RESULT_NAME) == n,
+        count_of(op, Part::RESULT_TYPE) == n,
+    )
+}
+
+// Whether there are as many bodies as the row says, of the form that a reduction asks.
+fn bodies_fit(text: &[u8], op: Parts, row: Row) -> bool
+    ensures { λ r. ⌜ r ≡ bodiesFit (now (text .entry)) op row ⌝ }
+{
+    let n = count_of(op, Part::BODY_OPEN);
+    if row.body {
+        return both(n == 1, body_fits(text, place_of(op, Part::BODY_OPEN, 0)));
+    }
+    n == 0
+}
+
+fn in_table(text: &[u8], op: Parts) -> bool
+    ensures { λ r. ⌜ r ≡ inTable (now (text .entry)) op ⌝ }
+{
+    row_named(text, place_of(op, Part::OP_NAME, 0)) < 34
+}
+
+fn typed_op(text: &[u8], op: Parts, row: Row, o: Operation, values: Values, n: usize) -> bool
+    requires { ⌜ (n ≤ 264) × (o ≡ operationOf (now text) op row) ⌝ }
+    ensures { λ r. ⌜ r ≡ typedOp (now (text .entry)) op row (values .list) n ⌝ }
+{
+    let known = both(in_table(text, op), operands_typed(text, op, values, n));
+    let operands = both(known, results_are(1, op));
+    let named = both(operands, attributes::attributes_fit(text, op, row));
+    let taken = both(named, taken_by_tables(row, o));
+    both(taken, bodies_fit(text, op, row))
+}
+
+fn returned_at(text: &[u8], op: Parts, header: Parts, j: usize) -> bool
+    requires { ⌜ j < 8 ⌝ }
+    ensures { λ r. ⌜ r ≡ returnedAt (now (text .entry)) op header j ⌝ }
+{
+    let written = type_of(text, op, Part::OPERAND_TYPE, j);
+    same_type(written, type_of(text, header, Part::OUTPUT_TYPE, j))
+}
+
+// The first operand of the return whose type is not that of its output; their number where there is none.
+pub fn first_unlike(text: &[u8], op: Parts, header: Parts) -> usize
+    ensures { λ r. ⌜ r ≡ firstFailing (arityOf op) (returnedAt (now (text .entry)) op header) ⌝ }
+{
+    let arity = arity_of(op);
+    for j in 0..arity {
+        if !returned_at(text, op, header, j) {
+            return j;
+        }
+    }
+    arity
+}
+
+fn returns_header(text: &[u8], op: Parts, header: Parts) -> bool
+    ensures { λ r. ⌜ r ≡ returnsHeader (now (text .entry)) op header ⌝ }
+{
+    let names = count_of(op, Part::OPERAND_NAME);
+    let outputs = count_of(header, Part::OUTPUT_TYPE);
+    both(
+        names == outputs,
+        first_unlike(text, op, header) == arity_of(op),
+    )
+}
+
+fn typed_return(text: &[u8], op: Parts, header: Parts, values: Values, n: usize) -> bool
+    requires { ⌜ n ≤ 264 ⌝ }
+    ensures { λ r. ⌜ r ≡ typedReturn (now (text .entry)) op header (values .list) n ⌝ }
+{
+    let operands = both(operands_typed(text, op, values, n), results_are(0, op));
+    let bare = both(operands, count_of(op, Part::ATTRIBUTE_NAME) == 0);
+    let flat = both(bare, count_of(op, Part::BODY_OPEN) == 0);
+    both(flat, returns_header(text, op, header))
+}
+
+// Refusal 8 and the number of the constraint, or none.
+fn judged_by(c: usize) -> Judged
+    ensures { λ r. ⌜ r ≡ record { refusal = pick (eqb c 0) 0 8; b = c } ⌝ }
+{
+    if c == 0 {
+        return Judged { refusal: 0, b: 0 };
+    }
+    Judged { refusal: 8, b: c }
+}
+
+// Refusals 7 and 8 of an op.
+pub fn op_judged(text: &[u8], op: Parts, values: Values, n: usize) -> Judged
+    requires { ⌜ n ≤ 264 ⌝ }
+    ensures { λ r. ⌜ r ≡ opJudged (now (text .entry)) op (values .list) n ⌝ }
+{
+    let row = row_of(text, op);
+    let o = operation_of(text, op, row);
+    let rule = row.rule;
+    if typed_op(text, op, row, o, values, n) {
+        return judged_by(broken_by(rule, o));
+    }
+    Judged { refusal: 7, b: 0 }
+}
+
+// Refusal 7 of the return.
+pub fn return_judged(text: &[u8], op: Parts, header: Parts, values: Values, n: usize) -> Judged
+    requires { ⌜ n ≤ 264 ⌝ }
+    ensures { λ r. ⌜ r ≡ returnJudged (now (text .entry)) op header (values .list) n ⌝ }
+{
+    if typed_return(text, op, header, values, n) {
+        return Judged { refusal: 0, b: 0 };
+    }
+    Judged { refusal: 7, b: 0 }
+}
