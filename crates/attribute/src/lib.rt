@@ -1,11 +1,14 @@
 // The value of an attribute, by the place of the attribute's name in the text.
+use cursor::Cursor;
+use cursor::after;
+use cursor::past;
+use cursor::token;
 use element::ElementType;
 use optable::Kinds;
 use optable::find_choice;
 use optable::find_choice_kind;
 use text::Token;
 use text::names::is_word;
-use text::token_at;
 use types::numbers::number_in;
 ghost use mathlib.Core.Path.{_≡_};
 ghost use lib.ListN.{length};
@@ -31,17 +34,17 @@ pub struct Constant {
     pub ty: usize,
 }
 
-// The token that comes n tokens after the one at or after byte at.
-fn token_after(text: &[u8], at: usize, n: usize) -> Token
-    ensures { λ r. ⌜ r ≡ tokenAfter n (now (text .entry)) at ⌝ }
+// The token that comes n tokens after the one at or after a cursor.
+fn token_after(text: &[u8], from: Cursor, n: usize) -> Token
+    ensures { λ r. ⌜ r ≡ tokenAfter n (now (text .entry)) (from .at) ⌝ }
 {
-    let mut i = at;
+    let mut c = from;
     let mut left = n;
     while left > 0 {
-        i = token_at(text, i).end;
+        c = past(text, c);
         left -= 1;
     }
-    token_at(text, i)
+    token(text, c)
 }
 
 fn is_array(text: &[u8], start: usize, end: usize) -> bool
@@ -84,8 +87,9 @@ fn word_form(text: &[u8], t: Token) -> usize
 pub fn choice_at(text: &[u8], name: usize) -> Chosen
     ensures { λ r. ⌜ r ≡ choiceAt (now (text .entry)) name ⌝ }
 {
-    let kind = token_after(text, name, 4);
-    let choice = token_after(text, name, 5);
+    let from = Cursor { at: name };
+    let kind = token_after(text, from, 4);
+    let choice = token_after(text, from, 5);
     Chosen {
         kind: find_choice_kind(text, kind.start, kind.end),
         choice: find_choice(text, choice.start, choice.end),
@@ -96,7 +100,7 @@ pub fn choice_at(text: &[u8], name: usize) -> Chosen
 pub fn form_at(text: &[u8], name: usize) -> usize
     ensures { λ r. ⌜ r ≡ formAt (now (text .entry)) name ⌝ }
 {
-    let t = token_after(text, name, 2);
+    let t = token_after(text, Cursor { at: name }, 2);
     if t.kind == 2 {
         return Kinds::NUMBER;
     }
@@ -119,7 +123,7 @@ fn pattern_at(text: &[u8], start: usize) -> usize
 pub fn number_at(text: &[u8], name: usize) -> usize
     ensures { λ r. ⌜ r ≡ numberAt (now (text .entry)) name ⌝ }
 {
-    pattern_at(text, token_after(text, name, 2).start)
+    pattern_at(text, token_after(text, Cursor { at: name }, 2).start)
 }
 
 fn no_numbers() -> Numbers
@@ -157,19 +161,19 @@ fn goes_on(kind: u8) -> bool
     false
 }
 
-// The numbers from byte at on.
-fn numbers_from(text: &[u8], at: usize) -> Numbers
-    ensures { λ r. ⌜ r ≡ numbersFrom 6 noNumbers (now (text .entry)) at ⌝ }
+// The numbers from a cursor on.
+fn numbers_from(text: &[u8], from: Cursor) -> Numbers
+    ensures { λ r. ⌜ r ≡ numbersFrom 6 noNumbers (now (text .entry)) (from .at) ⌝ }
 {
     let mut ns = no_numbers();
-    let mut i = at;
+    let mut c = from;
     let mut left: usize = 6;
     while left > 0 {
-        let mark = token_at(text, i);
+        let mark = token(text, c);
         if goes_on(mark.kind) {
-            let number = token_at(text, mark.end);
+            let number = token(text, after(mark));
             ns = with_number(ns, pattern_at(text, number.start));
-            i = number.end;
+            c = after(number);
             left -= 1;
         } else {
             return ns;
@@ -181,7 +185,7 @@ fn numbers_from(text: &[u8], at: usize) -> Numbers
 pub fn numbers_at(text: &[u8], name: usize) -> Numbers
     ensures { λ r. ⌜ r ≡ numbersAt (now (text .entry)) name ⌝ }
 {
-    numbers_from(text, token_after(text, name, 4).end)
+    numbers_from(text, after(token_after(text, Cursor { at: name }, 4)))
 }
 
 fn ends_literal(kind: u8) -> bool
@@ -196,28 +200,28 @@ fn ends_literal(kind: u8) -> bool
     false
 }
 
-// Where the first `>` from byte at on ends, or the text.
-fn close_of(text: &[u8], at: usize) -> usize
-    ensures { λ r. ⌜ r ≡ closeFrom (length (now (text .entry))) (now (text .entry)) at ⌝ }
+// The cursor after the first `>` from a cursor on, or at the end of the text.
+fn close_of(text: &[u8], from: Cursor) -> Cursor
+    ensures { λ r. ⌜ r .at ≡ closeFrom (length (now (text .entry))) (now (text .entry)) (from .at) ⌝ }
 {
-    let mut i = at;
+    let mut c = from;
     let mut left = text.len();
     while left > 0 {
-        let t = token_at(text, i);
+        let t = token(text, c);
+        c = after(t);
         if ends_literal(t.kind) {
-            return t.end;
+            return c;
         }
-        i = t.end;
         left -= 1;
     }
-    i
+    c
 }
 
 pub fn dense_at(text: &[u8], name: usize) -> Constant
     ensures { λ r. ⌜ r ≡ denseAt (now (text .entry)) name ⌝ }
 {
-    let literal = token_after(text, name, 4).start;
-    let close = close_of(text, literal);
+    let literal = token_after(text, Cursor { at: name }, 4).start;
+    let close = close_of(text, Cursor { at: literal });
     Constant {
         literal: literal,
         ty: token_after(text, close, 1).start,

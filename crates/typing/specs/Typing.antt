@@ -1,47 +1,22 @@
--- One op against the values before it, its row of the op table and the header: refusals 7 and 8.
+-- One op against the values before it and its row of the op table: refusals 7 and 8.
 -- Assumes nothing.
-use Prim.Native.Nat.{ℕ, min}
+use Prim.Native.Nat.{ℕ}
 use mathlib.Core.List.{List}
 use mathlib.Core.Bool.{Bool, true, _&&_}
-use lib.ListN.{getD}
 use lib.Dec.{ltb, eqb}
-use Rattle.lists.specs.Lists.{pick, tab, firstWhere}
+use Rattle.lists.specs.Lists.{pick, tab}
 use Rattle.optable.specs.Table.{value, compareType, rowAt}
 use Rattle.optable.specs.declared.Row.{Row}
 use Rattle.program.specs.declared.Parts.{Parts}
-use Rattle.scope.specs.Scope.{sameAt}
-use Rattle.dimrules.specs.Count.{everywhere}
-use Rattle.dimrules.specs.Types.{sameType}
 use Rattle.dimrules.specs.declared.TensorType.{TensorType}
 use Rattle.opcheck.specs.Judged.{takenByTables, brokenBy}
 use Rattle.opcheck.specs.declared.Operation.{Operation}
-use Rattle.places.specs.Places.{opName, resultName, operandName, operandType, resultType, attributeName, bodyOpen, outputType, countOf, placeOf, blankType, typeOfPart}
+use Rattle.places.specs.Places.{opName, resultName, operandType, resultType, bodyOpen, countOf, placeOf, blankType, typeOfPart}
 use Rattle.values.specs.declared.Value.{Value}
-use Rattle.values.specs.Values.{noValue}
+use Rattle.operands.specs.Operands.{arityOf, operandsTyped}
 use Rattle.attributes.specs.Attributes.{attributesFit, numbersOf, choiceOf, denseType}
 use Rattle.bodies.specs.Bodies.{rowNamed, bodyFits, argumentType}
 use Rattle.typing.specs.declared.Judged.{Judged}
-
--- ---- operands
-
--- the value that the name at byte a stands for, among the first n; n where it stands for none
-unfoldable pub valueNamed : List ℕ → List Value → ℕ → ℕ → ℕ
-valueNamed text values n a = firstWhere (λ i. sameAt text (getD values i noValue .name) a) (tab n (λ i. i))
-
--- 01, Sizes, 5: at most 8 operands
-unfoldable pub arityOf : Parts → ℕ
-arityOf op = min (countOf op operandName) 8
-
--- operand j is defined, and its written type is that of its definition
-unfoldable pub operandTyped : List ℕ → Parts → List Value → ℕ → ℕ → Bool
-operandTyped text op values n j =
-    let i = valueNamed text values n (placeOf op operandName j) in
-    ltb i n && sameType (typeOfPart text op operandType j) (getD values i noValue .ty)
-
--- "a written operand type that isn't that of its definition": there are as many as operands, and each is
-unfoldable pub operandsTyped : List ℕ → Parts → List Value → ℕ → Bool
-operandsTyped text op values n =
-    ltb (countOf op operandName) 9 && eqb (countOf op operandType) (countOf op operandName) && everywhere (arityOf op) (operandTyped text op values n)
 
 -- ---- what is read of an op
 
@@ -91,19 +66,6 @@ unfoldable pub typedOp : List ℕ → Parts → Row → List Value → ℕ → B
 typedOp text op row values n =
     inTable text op && operandsTyped text op values n && resultsAre 1 op && attributesFit text op row && takenByTables row (operationOf text op row) && bodiesFit text op row
 
--- output j of the header is what the return names
-unfoldable pub returnedAt : List ℕ → Parts → Parts → ℕ → Bool
-returnedAt text op header j = sameType (typeOfPart text op operandType j) (typeOfPart text header outputType j)
-
--- "return types that aren't the header's"
-unfoldable pub returnsHeader : List ℕ → Parts → Parts → Bool
-returnsHeader text op header = eqb (countOf op operandName) (countOf header outputType) && everywhere (arityOf op) (returnedAt text op header)
-
--- none of them holds of the return: no results, no attributes, no bodies
-unfoldable pub typedReturn : List ℕ → Parts → Parts → List Value → ℕ → Bool
-typedReturn text op header values n =
-    operandsTyped text op values n && resultsAre 0 op && eqb (countOf op attributeName) 0 && eqb (countOf op bodyOpen) 0 && returnsHeader text op header
-
 -- ---- refusals 7 and 8
 
 -- a refusal of kind 7 or 8 and its B; 0: none
@@ -112,6 +74,3 @@ opJudged text op values n =
     let row = rowOf text op in
     let c = brokenBy (row .rule) (operationOf text op row) in
     pick (typedOp text op row values n) (record { refusal = pick (eqb c 0) 0 8; b = c }) (record { refusal = 7; b = 0 })
-
-unfoldable pub returnJudged : List ℕ → Parts → Parts → List Value → ℕ → Judged
-returnJudged text op header values n = record { refusal = pick (typedReturn text op header values n) 0 7; b = 0 }

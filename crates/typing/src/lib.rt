@@ -1,13 +1,14 @@
-// One op against the values before it, its row of the op table and the header: refusals 7 and 8.
+// One op against the values before it and its row of the op table: refusals 7 and 8.
 use bodies::argument_type;
 use bodies::body_fits;
 use bodies::row_named;
 use dimrules::TensorType;
 use dimrules::both;
-use dimrules::same_type;
 use opcheck::Operation;
 use opcheck::broken_by;
 use opcheck::taken_by_tables;
+use operands::arity_of;
+use operands::operands_typed;
 use optable::Row;
 use optable::op_row;
 use places::Part;
@@ -16,81 +17,18 @@ use places::count_of;
 use places::place_of;
 use places::type_of;
 use program::Parts;
-use scope::same_at;
 use values::Values;
 ghost use mathlib.Core.Path.{_≡_};
 ghost use Prim.Native.Nat.{_<_, _≤_};
 ghost use lib.Dec.{eqb};
 ghost use Rattle.lists.specs.Lists.{tab, pick};
-ghost use Rattle.dimrules.specs.Count.{firstFailing};
-ghost use Rattle.typing.specs.Typing.{valueNamed, arityOf, operandTyped, operandsTyped, rowOf, typesOf, bodyType, operationOf, resultsAre, bodiesFit, inTable, typedOp, returnedAt, returnsHeader, typedReturn, opJudged, returnJudged};
+ghost use Rattle.operands.specs.Operands.{arityOf};
+ghost use Rattle.typing.specs.Typing.{rowOf, typesOf, bodyType, operationOf, resultsAre, bodiesFit, inTable, typedOp, opJudged};
 
 // A refusal of kind 7 or 8 and its B; refusal 0: none.
 pub struct Judged {
     pub refusal: usize,
     pub b: usize,
-}
-
-// The value that the name at byte a stands for, among the first n; n where it stands for none.
-pub fn value_named(text: &[u8], values: Values, n: usize, a: usize) -> usize
-    requires { ⌜ n ≤ 264 ⌝ }
-    ensures { λ r. ⌜ r ≡ valueNamed (now (text .entry)) (values .list) n a ⌝ }
-{
-    let list = values.list;
-    for i in 0..n {
-        let v = list[i];
-        if same_at(text, v.name, a) {
-            return i;
-        }
-    }
-    n
-}
-
-fn arity_of(op: Parts) -> usize
-    ensures { λ r. ⌜ r ≡ arityOf op ⌝ }
-{
-    let n = count_of(op, Part::OPERAND_NAME);
-    if n < 8 { n } else { 8 }
-}
-
-// Whether operand j is defined and its written type is that of its definition.
-fn operand_typed(text: &[u8], op: Parts, values: Values, n: usize, j: usize) -> bool
-    requires { ⌜ (n ≤ 264) × (j < 8) ⌝ }
-    ensures { λ r. ⌜ r ≡ operandTyped (now (text .entry)) op (values .list) n j ⌝ }
-{
-    let i = value_named(text, values, n, place_of(op, Part::OPERAND_NAME, j));
-    let written = type_of(text, op, Part::OPERAND_TYPE, j);
-    if i < n {
-        let list = values.list;
-        let v = list[i];
-        let defined = v.ty;
-        return same_type(written, defined);
-    }
-    false
-}
-
-// The first operand that is not; their number where all are.
-pub fn first_untyped(text: &[u8], op: Parts, values: Values, n: usize) -> usize
-    requires { ⌜ n ≤ 264 ⌝ }
-    ensures { λ r. ⌜ r ≡ firstFailing (arityOf op) (operandTyped (now (text .entry)) op (values .list) n) ⌝ }
-{
-    let arity = arity_of(op);
-    for j in 0..arity {
-        if !operand_typed(text, op, values, n, j) {
-            return j;
-        }
-    }
-    arity
-}
-
-fn operands_typed(text: &[u8], op: Parts, values: Values, n: usize) -> bool
-    requires { ⌜ n ≤ 264 ⌝ }
-    ensures { λ r. ⌜ r ≡ operandsTyped (now (text .entry)) op (values .list) n ⌝ }
-{
-    let names = count_of(op, Part::OPERAND_NAME);
-    let types = count_of(op, Part::OPERAND_TYPE);
-    let counted = both(names < 9, types == names);
-    both(counted, first_untyped(text, op, values, n) == arity_of(op))
 }
 
 // The op's row of the op table.
@@ -162,7 +100,8 @@ pub fn operation_of(text: &[u8], op: Parts, row: Row) -> Operation
     }
 }
 
-fn results_are(n: usize, op: Parts) -> bool
+// Whether there are so many result names and result types.
+pub fn results_are(n: usize, op: Parts) -> bool
     ensures { λ r. ⌜ r ≡ resultsAre n op ⌝ }
 {
     both(
@@ -199,48 +138,6 @@ fn typed_op(text: &[u8], op: Parts, row: Row, o: Operation, values: Values, n: u
     both(taken, bodies_fit(text, op, row))
 }
 
-fn returned_at(text: &[u8], op: Parts, header: Parts, j: usize) -> bool
-    requires { ⌜ j < 8 ⌝ }
-    ensures { λ r. ⌜ r ≡ returnedAt (now (text .entry)) op header j ⌝ }
-{
-    let written = type_of(text, op, Part::OPERAND_TYPE, j);
-    same_type(written, type_of(text, header, Part::OUTPUT_TYPE, j))
-}
-
-// The first operand of the return whose type is not that of its output; their number where there is none.
-pub fn first_unlike(text: &[u8], op: Parts, header: Parts) -> usize
-    ensures { λ r. ⌜ r ≡ firstFailing (arityOf op) (returnedAt (now (text .entry)) op header) ⌝ }
-{
-    let arity = arity_of(op);
-    for j in 0..arity {
-        if !returned_at(text, op, header, j) {
-            return j;
-        }
-    }
-    arity
-}
-
-fn returns_header(text: &[u8], op: Parts, header: Parts) -> bool
-    ensures { λ r. ⌜ r ≡ returnsHeader (now (text .entry)) op header ⌝ }
-{
-    let names = count_of(op, Part::OPERAND_NAME);
-    let outputs = count_of(header, Part::OUTPUT_TYPE);
-    both(
-        names == outputs,
-        first_unlike(text, op, header) == arity_of(op),
-    )
-}
-
-fn typed_return(text: &[u8], op: Parts, header: Parts, values: Values, n: usize) -> bool
-    requires { ⌜ n ≤ 264 ⌝ }
-    ensures { λ r. ⌜ r ≡ typedReturn (now (text .entry)) op header (values .list) n ⌝ }
-{
-    let operands = both(operands_typed(text, op, values, n), results_are(0, op));
-    let bare = both(operands, count_of(op, Part::ATTRIBUTE_NAME) == 0);
-    let flat = both(bare, count_of(op, Part::BODY_OPEN) == 0);
-    both(flat, returns_header(text, op, header))
-}
-
 // Refusal 8 and the number of the constraint, or none.
 fn judged_by(c: usize) -> Judged
     ensures { λ r. ⌜ r ≡ record { refusal = pick (eqb c 0) 0 8; b = c } ⌝ }
@@ -261,17 +158,6 @@ pub fn op_judged(text: &[u8], op: Parts, values: Values, n: usize) -> Judged
     let rule = row.rule;
     if typed_op(text, op, row, o, values, n) {
         return judged_by(broken_by(rule, o));
-    }
-    Judged { refusal: 7, b: 0 }
-}
-
-// Refusal 7 of the return.
-pub fn return_judged(text: &[u8], op: Parts, header: Parts, values: Values, n: usize) -> Judged
-    requires { ⌜ n ≤ 264 ⌝ }
-    ensures { λ r. ⌜ r ≡ returnJudged (now (text .entry)) op header (values .list) n ⌝ }
-{
-    if typed_return(text, op, header, values, n) {
-        return Judged { refusal: 0, b: 0 };
     }
     Judged { refusal: 7, b: 0 }
 }

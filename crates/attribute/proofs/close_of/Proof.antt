@@ -10,28 +10,32 @@ use Rattle.attribute.proofs.close_of.Statement.{statement}
 use Rattle.attribute.proofs.close_of.Tie as tie
 
 abbrev Inv-loop : tie.InvT-loop
-Inv-loop text at i₀ left₀ i left = closeFrom left text i ≡ closeFrom (length text) text at
+Inv-loop text c₀ left₀ c left = closeFrom left text (c .at) ≡ closeFrom (length text) text (c₀ .at)
 
 abbrev μ-loop : tie.MeasureT-loop
-μ-loop text at i₀ left₀ i left = left
+μ-loop text c₀ left₀ c left = left
 
 loop-holds : tie.Need-loop-holds Inv-loop μ-loop
 loop-holds c = refl
 
-token-at-requires : tie.Need-token-at-requires Inv-loop μ-loop
-token-at-requires c κs = search needs
+token-requires : tie.Need-token-requires Inv-loop μ-loop
+token-requires c κs = search needs
+
+after-requires : tie.Need-after-requires Inv-loop μ-loop
+after-requires c κs = search needs
 
 ends-literal-requires : tie.Need-ends-literal-requires Inv-loop μ-loop
 ends-literal-requires c κs = search needs
 
 returns : tie.Need-returns Inv-loop μ-loop
 returns c =
-    let h = c .before .before .before .before in
+    let h = c .before .before .before .before .before in
     let l = h .loop in
     let text = h .before .before .args .text .now in
-    let m = c .before .before .before .loop-test .taken in
-    let t = c .before .before .token-at in
-    sym (close-stop (l .left) text (l .i) (t .result) (omega arith) (t .ensures) (sym (c .before .ends-literal .ensures) ∙ c .if1 .taken)) ∙ l .inv
+    let m = c .before .before .before .before .loop-test .taken in
+    let t = c .before .before .before .token in
+    rw (c .before .before .after .ensures)
+    (sym (close-stop (l .left) text (l .c) (t .result) (omega arith) (t .ensures) (sym (c .before .ends-literal .ensures) ∙ c .if1 .taken)) ∙ l .inv)
 
 sub-left : tie.Need-sub-left Inv-loop μ-loop
 sub-left c = search needs
@@ -41,19 +45,20 @@ loop-less c = search needs
 
 loop-again : tie.Need-loop-again Inv-loop μ-loop
 loop-again c =
-    let h = c .before .before .before .before in
+    let h = c .before .before .before .before .before in
     let l = h .loop in
     let text = h .before .before .args .text .now in
-    let m = c .before .before .before .loop-test .taken in
-    let t = c .before .before .token-at in
-    sym (close-more (l .left) text (l .i) (t .result) (omega arith) (t .ensures) (sym (c .before .ends-literal .ensures) ∙ c .if1 .left)) ∙ l .inv
+    let m = c .before .before .before .before .loop-test .taken in
+    let t = c .before .before .before .token in
+    rw (c .before .before .after .ensures)
+    (sym (close-more (l .left) text (l .c) (t .result) (omega arith) (t .ensures) (sym (c .before .ends-literal .ensures) ∙ c .if1 .left)) ∙ l .inv)
 
 returns-2 : tie.Need-returns-2 Inv-loop μ-loop
 returns-2 c =
     let h = c .before in
     let l = h .loop in
     let text = h .before .before .args .text .now in
-    sym (close-none (l .left) text (l .i) (omega arith)) ∙ l .inv
+    sym (close-none (l .left) text (l .c .at) (omega arith)) ∙ l .inv
 
 pub close-of-spec : {M : Type 1} → statement M
-close-of-spec = tie.close (tie.spec Inv-loop μ-loop loop-holds token-at-requires ends-literal-requires returns sub-left loop-less loop-again returns-2)
+close-of-spec = tie.close (tie.spec Inv-loop μ-loop loop-holds token-requires after-requires ends-literal-requires returns sub-left loop-less loop-again returns-2)

@@ -4,15 +4,16 @@ use mathlib.Core.Path.{_≡_, refl, sym, _∙_}
 use native.Mathlib.Omega.{arith}
 use borrow.Author.Needs.{needs}
 use Rattle.attribute.specs.Attribute.{noNumbers, numbersFrom}
+use Rattle.cursor.specs.Cursor.{tokenOf, afterToken}
 use Rattle.attribute.proofs.ScanLaw.{numbers-more, numbers-stop, numbers-none}
 use Rattle.attribute.proofs.numbers_from.Statement.{statement}
 use Rattle.attribute.proofs.numbers_from.Tie as tie
 
 abbrev Inv-loop : tie.InvT-loop
-Inv-loop text at ns₀ i₀ left₀ ns i left = numbersFrom left ns text i ≡ numbersFrom 6 noNumbers text at
+Inv-loop text ns₀ c₀ left₀ ns c left = numbersFrom left ns text (c .at) ≡ numbersFrom 6 noNumbers text (c₀ .at)
 
 abbrev μ-loop : tie.MeasureT-loop
-μ-loop text at ns₀ i₀ left₀ ns i left = left
+μ-loop text ns₀ c₀ left₀ ns c left = left
 
 no-numbers-requires : tie.Need-no-numbers-requires Inv-loop μ-loop
 no-numbers-requires c κs = search needs
@@ -20,20 +21,26 @@ no-numbers-requires c κs = search needs
 loop-holds : tie.Need-loop-holds Inv-loop μ-loop
 loop-holds c = rw (c .no-numbers .ensures)
 
-token-at-requires : tie.Need-token-at-requires Inv-loop μ-loop
-token-at-requires c κs = search needs
+token-requires : tie.Need-token-requires Inv-loop μ-loop
+token-requires c κs = search needs
 
 goes-on-requires : tie.Need-goes-on-requires Inv-loop μ-loop
 goes-on-requires c κs = search needs
 
-token-at-requires-2 : tie.Need-token-at-requires-2 Inv-loop μ-loop
-token-at-requires-2 c κs = search needs
+after-requires : tie.Need-after-requires Inv-loop μ-loop
+after-requires c κs = search needs
+
+token-requires-2 : tie.Need-token-requires-2 Inv-loop μ-loop
+token-requires-2 c κs = search needs
 
 pattern-at-requires : tie.Need-pattern-at-requires Inv-loop μ-loop
 pattern-at-requires c κs = search needs
 
 with-number-requires : tie.Need-with-number-requires Inv-loop μ-loop
 with-number-requires c κs = search needs
+
+after-requires-2 : tie.Need-after-requires-2 Inv-loop μ-loop
+after-requires-2 c κs = search needs
 
 sub-left : tie.Need-sub-left Inv-loop μ-loop
 sub-left c = search needs
@@ -43,15 +50,16 @@ loop-less c = search needs
 
 loop-again : tie.Need-loop-again Inv-loop μ-loop
 loop-again c =
-    let h = c .before .before .before .before .before .before .before in
+    let h = c .before .before .before .before .before .before .before .before .before in
     let l = h .loop in
     let text = h .before .before .before .args .text .now in
-    let t = c .before .before .before .before .before .before .loop-test .taken in
-    let mark = c .before .before .before .before .before .token-at in
-    let number = c .before .before .token-at2 in
-    let goes = sym (c .before .before .before .before .goes-on .ensures) ∙ c .before .before .before .if1 .taken in
-    rw (c .with-number .ensures, c .before .pattern-at .ensures)
-    (sym (numbers-more (l .left) (l .ns) text (l .i) (mark .result) (number .result) (omega arith) (mark .ensures) (number .ensures) goes) ∙ l .inv)
+    let t = c .before .before .before .before .before .before .before .before .loop-test .taken in
+    let mark = c .before .before .before .before .before .before .before .token in
+    let goes = sym (c .before .before .before .before .before .before .goes-on .ensures) ∙ c .before .before .before .before .before .if1 .taken in
+    let number = c .before .before .before .token2 in
+    let read : number .result ≡ tokenOf text (afterToken (mark .result)) = rw (← c .before .before .before .before .after .ensures) (number .ensures) in
+    rw (c .after2 .ensures, c .before .with-number .ensures, c .before .before .pattern-at .ensures)
+    (sym (numbers-more (l .left) (l .ns) text (l .c) (mark .result) (number .result) (omega arith) (mark .ensures) read goes) ∙ l .inv)
 
 returns : tie.Need-returns Inv-loop μ-loop
 returns c =
@@ -59,15 +67,15 @@ returns c =
     let l = h .loop in
     let text = h .before .before .before .args .text .now in
     let t = c .before .before .before .loop-test .taken in
-    let mark = c .before .before .token-at in
-    sym (numbers-stop (l .left) (l .ns) text (l .i) (mark .result) (omega arith) (mark .ensures) (sym (c .before .goes-on .ensures) ∙ c .if1 .left)) ∙ l .inv
+    let mark = c .before .before .token in
+    sym (numbers-stop (l .left) (l .ns) text (l .c) (mark .result) (omega arith) (mark .ensures) (sym (c .before .goes-on .ensures) ∙ c .if1 .left)) ∙ l .inv
 
 returns-2 : tie.Need-returns-2 Inv-loop μ-loop
 returns-2 c =
     let h = c .before in
     let l = h .loop in
     let text = h .before .before .before .args .text .now in
-    sym (numbers-none (l .left) (l .ns) text (l .i) (omega arith)) ∙ l .inv
+    sym (numbers-none (l .left) (l .ns) text (l .c .at) (omega arith)) ∙ l .inv
 
 pub numbers-from-spec : {M : Type 1} → statement M
-numbers-from-spec = tie.close (tie.spec Inv-loop μ-loop no-numbers-requires loop-holds token-at-requires goes-on-requires token-at-requires-2 pattern-at-requires with-number-requires sub-left loop-less loop-again returns returns-2)
+numbers-from-spec = tie.close (tie.spec Inv-loop μ-loop no-numbers-requires loop-holds token-requires goes-on-requires after-requires token-requires-2 pattern-at-requires with-number-requires after-requires-2 sub-left loop-less loop-again returns returns-2)

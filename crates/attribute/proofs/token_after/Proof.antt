@@ -9,16 +9,16 @@ use Rattle.attribute.proofs.token_after.Statement.{statement}
 use Rattle.attribute.proofs.token_after.Tie as tie
 
 abbrev Inv-loop : tie.InvT-loop
-Inv-loop text at n i₀ left₀ i left = tokenAfter left text i ≡ tokenAfter n text at
+Inv-loop text n c₀ left₀ c left = tokenAfter left text (c .at) ≡ tokenAfter n text (c₀ .at)
 
 abbrev μ-loop : tie.MeasureT-loop
-μ-loop text at n i₀ left₀ i left = left
+μ-loop text n c₀ left₀ c left = left
 
 loop-holds : tie.Need-loop-holds Inv-loop μ-loop
 loop-holds c = refl
 
-token-at-requires : tie.Need-token-at-requires Inv-loop μ-loop
-token-at-requires c κs = search needs
+past-requires : tie.Need-past-requires Inv-loop μ-loop
+past-requires c κs = search needs
 
 sub-left : tie.Need-sub-left Inv-loop μ-loop
 sub-left c = search needs
@@ -32,17 +32,17 @@ loop-again c =
     let l = h .loop in
     let text = h .before .before .args .text .now in
     let t = c .before .loop-test .taken in
-    rw (c .token-at .ensures) (sym (after-step (l .left) text (l .i) (omega arith)) ∙ l .inv)
+    rw (c .past .ensures) (sym (after-step (l .left) text (l .c) (omega arith)) ∙ l .inv)
 
-token-at-requires-2 : tie.Need-token-at-requires-2 Inv-loop μ-loop
-token-at-requires-2 c κs = search needs
+token-requires : tie.Need-token-requires Inv-loop μ-loop
+token-requires c κs = search needs
 
 returns : tie.Need-returns Inv-loop μ-loop
 returns c =
     let h = c .before .before in
     let l = h .loop in
     let text = h .before .before .args .text .now in
-    c .token-at2 .ensures ∙ sym (after-none (l .left) text (l .i) (omega arith)) ∙ l .inv
+    c .token .ensures ∙ sym (after-none (l .left) text (l .c) (omega arith)) ∙ l .inv
 
 pub token-after-spec : {M : Type 1} → statement M
-token-after-spec = tie.close (tie.spec Inv-loop μ-loop loop-holds token-at-requires sub-left loop-less loop-again token-at-requires-2 returns)
+token-after-spec = tie.close (tie.spec Inv-loop μ-loop loop-holds past-requires sub-left loop-less loop-again token-requires returns)

@@ -1,38 +1,27 @@
--- `bench::bench_read` meets its contract.
--- Assumes nothing.
 use borrow.Author.Needs.{needs}
-use borrow.Author.Tests.{lt-ltb, le-ltb}
-use Rattle.bench.specs.Place.{placed, answerOf}
 use Rattle.bench.proofs.bench_read.Statement.{statement}
 use Rattle.bench.proofs.bench_read.Tie as tie
+use Rattle.bench.proofs.bench_read.Reads as reads
+use Rattle.bench.proofs.bench_read.Lts as lts
+use Rattle.bench.proofs.answer_into.Reads as answer-into-reads
+use Rattle.judge.proofs.read_refusal.Reads as read-refusal-reads
 
+-- src/lib.rt:36:17
 read-refusal-requires : tie.Need-read-refusal-requires
 read-refusal-requires c κs = search needs
 
-slice-write-place : tie.Need-slice-write-place
-slice-write-place c = search needs
+-- src/lib.rt:36:5
+answer-into-requires : tie.Need-answer-into-requires
+answer-into-requires c κs = search needs
 
-slice-write-place-2 : tie.Need-slice-write-place-2
-slice-write-place-2 c = search needs
-
+-- src/lib.rt:32:1
 same-length : tie.Need-same-length
 same-length c = search needs
 
+-- src/lib.rt:32:1
 returns : tie.Need-returns
-unfolding answerOf placed
-returns c = simp (← c .before .read-refusal .ensures, lt-ltb _ _ (c .if1 .taken))
-
-returns-2 : tie.Need-returns-2
-unfolding answerOf placed
-returns-2 c = simp (← c .before .read-refusal .ensures, le-ltb _ _ (c .if1 .left))
+returns c = rw (← c .before .before .before .before .read-refusal .ensures) (c .before .before .answer-into .ensures)
 
 pub bench-read-spec : {M : Type 1} → statement M
 bench-read-spec =
-    tie.close
-    (tie.spec
-    read-refusal-requires
-    slice-write-place
-    slice-write-place-2
-    same-length
-    returns
-    returns-2)
+    tie.close (tie.spec read-refusal-requires answer-into-requires same-length returns)

@@ -4,18 +4,6 @@ use borrow.Author.Needs.{needs}
 use Rattle.laid.proofs.put_slot.Statement.{statement}
 use Rattle.laid.proofs.put_slot.Tie as tie
 
-mul-out : tie.Need-mul-out
-mul-out c = search needs
-
-slice-write-out : tie.Need-slice-write-out
-slice-write-out c = search needs
-
-add-result : tie.Need-add-result
-add-result c = search needs
-
-same-length : tie.Need-same-length
-same-length c = search needs
-
 returns : tie.Need-returns
 unfolding put
 returns c = simp (lt-ltb _ _ (c .if1 .taken))
@@ -26,4 +14,5 @@ returns-2 c = simp (le-ltb _ _ (c .if1 .left))
 
 pub put-slot-spec : {M : Type 1} → statement M
 put-slot-spec =
-    tie.close (tie.spec mul-out slice-write-out add-result same-length returns returns-2)
+    tie.close (tie.spec
+    (λ c. search needs) (λ c. search needs) (λ c. search needs) (λ c. search needs) returns returns-2)

@@ -12,37 +12,10 @@ use borrow.Author.Needs.{needs}
 use Rattle.printed.proofs.print_dense.Statement.{statement}
 use Rattle.printed.proofs.print_dense.Tie as tie
 
-slice-aggregate-put-text : tie.Need-slice-aggregate-put-text
-slice-aggregate-put-text c = search needs
-
-put-text-requires : tie.Need-put-text-requires
-put-text-requires c κs = search needs
-
 put-lists-requires : tie.Need-put-lists-requires
 put-lists-requires c κs =
     let a = c .before .before .before .before .before .before .before .before .args in
     let z = whole-size (a .e) (a .shape .dims) (a .shape .rank) in omega (arith, z, c .before .before .before .before .before .before .before .before .pre .0 .rank, c .before .before .before .before .before .before .before .before .pre .1)
-
-slice-aggregate-put-text-2 : tie.Need-slice-aggregate-put-text-2
-slice-aggregate-put-text-2 c = search needs
-
-put-text-requires-2 : tie.Need-put-text-requires-2
-put-text-requires-2 c κs = search needs
-
-put-shape-requires : tie.Need-put-shape-requires
-put-shape-requires c κs = search needs
-
-put-element-requires : tie.Need-put-element-requires
-put-element-requires c κs = search needs
-
-slice-aggregate-put-text-3 : tie.Need-slice-aggregate-put-text-3
-slice-aggregate-put-text-3 c = search needs
-
-put-text-requires-3 : tie.Need-put-text-requires-3
-put-text-requires-3 c κs = search needs
-
-same-length : tie.Need-same-length
-same-length c = search needs
 
 returns : tie.Need-returns
 unfolding printed
@@ -61,14 +34,5 @@ pub print-dense-spec : {M : Type 1} → statement M
 print-dense-spec =
     tie.close
     (tie.spec
-    slice-aggregate-put-text
-    put-text-requires
-    put-lists-requires
-    slice-aggregate-put-text-2
-    put-text-requires-2
-    put-shape-requires
-    put-element-requires
-    slice-aggregate-put-text-3
-    put-text-requires-3
-    same-length
-    returns)
+    (λ c. search needs) (λ c κs. search needs) put-lists-requires (λ c. search needs) (λ c κs. search needs) (λ c κs. search needs) (λ c κs. search needs)
+    (λ c. search needs) (λ c κs. search needs) (λ c. search needs) returns)

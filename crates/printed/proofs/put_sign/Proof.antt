@@ -4,21 +4,13 @@ use borrow.Author.Needs.{needs}
 use Rattle.printed.proofs.put_sign.Statement.{statement}
 use Rattle.printed.proofs.put_sign.Tie as tie
 
-has-sign-requires : tie.Need-has-sign-requires
-has-sign-requires c κs = search needs
-
 returns : tie.Need-returns
 returns c = rw (← c .before .has-sign .ensures, c .if1 .taken) (sym (lay-none _))
-
-put-byte-requires : tie.Need-put-byte-requires
-put-byte-requires c κs = search needs
-
-same-length : tie.Need-same-length
-same-length c = search needs
 
 returns-2 : tie.Need-returns-2
 returns-2 c = rw (← c .before .before .before .before .before .has-sign .ensures, c .before .before .before .before .if1 .left) (c .before .before .put-byte .ensures ∙ sym (lay-one _ _))
 
 pub put-sign-spec : {M : Type 1} → statement M
 put-sign-spec =
-    tie.close (tie.spec has-sign-requires returns put-byte-requires same-length returns-2)
+    tie.close (tie.spec
+    (λ c κs. search needs) returns (λ c κs. search needs) (λ c. search needs) returns-2)

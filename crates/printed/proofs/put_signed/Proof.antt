@@ -3,29 +3,8 @@ use borrow.Author.Needs.{needs}
 use Rattle.printed.proofs.put_signed.Statement.{statement}
 use Rattle.printed.proofs.put_signed.Tie as tie
 
-put-digits-requires : tie.Need-put-digits-requires
-put-digits-requires c κs = search needs
-
-same-length : tie.Need-same-length
-same-length c = search needs
-
 returns : tie.Need-returns
 returns c = rw (text-above _ (c .before .before .before .before .if1 .taken)) (c .before .before .put-digits .ensures)
-
-put-byte-requires : tie.Need-put-byte-requires
-put-byte-requires c κs = search needs
-
-sub-put-digits : tie.Need-sub-put-digits
-sub-put-digits c = search needs
-
-add-put-digits : tie.Need-add-put-digits
-add-put-digits c = search needs
-
-put-digits-requires-2 : tie.Need-put-digits-requires-2
-put-digits-requires-2 c κs = search needs
-
-same-length-2 : tie.Need-same-length-2
-same-length-2 c = search needs
 
 returns-2 : tie.Need-returns-2
 returns-2 c = rw (text-below _ (c .before .before .before .before .before .before .before .before .if1 .left)) (then-put 45 _ _ _ _ (c .before .before .before .before .before .before .put-byte .ensures) (c .before .before .put-digits2 .ensures))
@@ -34,12 +13,5 @@ pub put-signed-spec : {M : Type 1} → statement M
 put-signed-spec =
     tie.close
     (tie.spec
-    put-digits-requires
-    same-length
-    returns
-    put-byte-requires
-    sub-put-digits
-    add-put-digits
-    put-digits-requires-2
-    same-length-2
-    returns-2)
+    (λ c κs. search needs) (λ c. search needs) returns (λ c κs. search needs) (λ c. search needs) (λ c. search needs) (λ c κs. search needs)
+    (λ c. search needs) returns-2)

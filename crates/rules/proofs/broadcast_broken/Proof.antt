@@ -3,18 +3,6 @@ use borrow.Author.Needs.{needs}
 use Rattle.rules.proofs.broadcast_broken.Statement.{statement}
 use Rattle.rules.proofs.broadcast_broken.Tie as tie
 
-rank-of-requires : tie.Need-rank-of-requires
-rank-of-requires c κs = search needs
-
-rank-of-requires-2 : tie.Need-rank-of-requires-2
-rank-of-requires-2 c κs = search needs
-
-sides-of-requires : tie.Need-sides-of-requires
-sides-of-requires c κs = search needs
-
-same-element-requires : tie.Need-same-element-requires
-same-element-requires c κs = search needs
-
 all-dims-requires : tie.Need-all-dims-requires
 all-dims-requires c κs = rw (c .before .sides-of .ensures) (record { sized = c .before .before .before .before .pre .0; few = c .before .before .before .before .pre .1 })
 
@@ -24,9 +12,6 @@ all-dims-requires-2 c κs = rw (c .before .before .sides-of .ensures) (record { 
 all-dims-requires-3 : tie.Need-all-dims-requires-3
 all-dims-requires-3 c κs = rw (c .before .before .before .sides-of .ensures) (record { sized = c .before .before .before .before .before .before .pre .0; few = c .before .before .before .before .before .before .pre .1 })
 
-first-broken-requires : tie.Need-first-broken-requires
-first-broken-requires c κs = search needs
-
 returns : tie.Need-returns
 unfolding broadcastConstraints
 returns c = simp (c .first-broken .ensures, c .before .all-dims3 .ensures, c .before .before .all-dims2 .ensures, c .before .before .before .all-dims .ensures, c .before .before .before .before .same-element .ensures, c .before .before .before .before .before .sides-of .ensures, c .before .before .before .before .before .before .rank-of2 .ensures, c .before .before .before .before .before .before .before .rank-of .ensures)
@@ -35,12 +20,5 @@ pub broadcast-broken-spec : {M : Type 1} → statement M
 broadcast-broken-spec =
     tie.close
     (tie.spec
-    rank-of-requires
-    rank-of-requires-2
-    sides-of-requires
-    same-element-requires
-    all-dims-requires
-    all-dims-requires-2
-    all-dims-requires-3
-    first-broken-requires
-    returns)
+    (λ c κs. search needs) (λ c κs. search needs) (λ c κs. search needs) (λ c κs. search needs) all-dims-requires all-dims-requires-2 all-dims-requires-3
+    (λ c κs. search needs) returns)

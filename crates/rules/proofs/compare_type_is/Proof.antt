@@ -8,9 +8,6 @@ returns : tie.Need-returns
 unfolding compareTypeIs
 returns c = simp (eq-eqb _ _ (c .if1 .taken))
 
-is-signed-requires : tie.Need-is-signed-requires
-is-signed-requires c κs = search needs
-
 returns-2 : tie.Need-returns-2
 unfolding compareTypeIs
 returns-2 c = simp (ne-eqb _ _ (c .before .before .if1 .left), ← c .before .is-signed .ensures, c .if2 .taken)
@@ -20,4 +17,5 @@ unfolding compareTypeIs
 returns-3 c = simp (ne-eqb _ _ (c .before .before .if1 .left), ← c .before .is-signed .ensures, c .if2 .left)
 
 pub compare-type-is-spec : {M : Type 1} → statement M
-compare-type-is-spec = tie.close (tie.spec returns is-signed-requires returns-2 returns-3)
+compare-type-is-spec = tie.close (tie.spec
+    returns (λ c κs. search needs) returns-2 returns-3)

@@ -3,15 +3,10 @@ use borrow.Author.Needs.{needs}
 use Rattle.rules.proofs.convert_broken.Statement.{statement}
 use Rattle.rules.proofs.convert_broken.Tie as tie
 
-same-shape-requires : tie.Need-same-shape-requires
-same-shape-requires c κs = search needs
-
-first-broken-requires : tie.Need-first-broken-requires
-first-broken-requires c κs = search needs
-
 returns : tie.Need-returns
 unfolding convertConstraints
 returns c = simp (c .first-broken .ensures, c .before .same-shape .ensures)
 
 pub convert-broken-spec : {M : Type 1} → statement M
-convert-broken-spec = tie.close (tie.spec same-shape-requires first-broken-requires returns)
+convert-broken-spec = tie.close (tie.spec
+    (λ c κs. search needs) (λ c κs. search needs) returns)

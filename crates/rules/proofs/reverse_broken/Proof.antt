@@ -3,23 +3,11 @@ use borrow.Author.Needs.{needs}
 use Rattle.rules.proofs.reverse_broken.Statement.{statement}
 use Rattle.rules.proofs.reverse_broken.Tie as tie
 
-rank-of-requires : tie.Need-rank-of-requires
-rank-of-requires c κs = search needs
-
-sides-of-requires : tie.Need-sides-of-requires
-sides-of-requires c κs = search needs
-
-same-type-requires : tie.Need-same-type-requires
-same-type-requires c κs = search needs
-
 all-dims-requires : tie.Need-all-dims-requires
 all-dims-requires c κs = rw (c .before .sides-of .ensures) (record { sized = c .before .before .before .pre .0; few = c .before .before .before .pre .1 })
 
 all-dims-requires-2 : tie.Need-all-dims-requires-2
 all-dims-requires-2 c κs = rw (c .before .before .sides-of .ensures) (record { sized = c .before .before .before .before .pre .0; few = c .before .before .before .before .pre .1 })
-
-first-broken-requires : tie.Need-first-broken-requires
-first-broken-requires c κs = search needs
 
 returns : tie.Need-returns
 unfolding reverseConstraints
@@ -29,10 +17,4 @@ pub reverse-broken-spec : {M : Type 1} → statement M
 reverse-broken-spec =
     tie.close
     (tie.spec
-    rank-of-requires
-    sides-of-requires
-    same-type-requires
-    all-dims-requires
-    all-dims-requires-2
-    first-broken-requires
-    returns)
+    (λ c κs. search needs) (λ c κs. search needs) (λ c κs. search needs) all-dims-requires all-dims-requires-2 (λ c κs. search needs) returns)

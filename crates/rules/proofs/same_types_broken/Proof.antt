@@ -3,15 +3,10 @@ use borrow.Author.Needs.{needs}
 use Rattle.rules.proofs.same_types_broken.Statement.{statement}
 use Rattle.rules.proofs.same_types_broken.Tie as tie
 
-all-types-requires : tie.Need-all-types-requires
-all-types-requires c κs = search needs
-
-first-broken-requires : tie.Need-first-broken-requires
-first-broken-requires c κs = search needs
-
 returns : tie.Need-returns
 unfolding sameTypesConstraints
 returns c = simp (c .first-broken .ensures, c .before .all-types .ensures)
 
 pub same-types-broken-spec : {M : Type 1} → statement M
-same-types-broken-spec = tie.close (tie.spec all-types-requires first-broken-requires returns)
+same-types-broken-spec = tie.close (tie.spec
+    (λ c κs. search needs) (λ c κs. search needs) returns)

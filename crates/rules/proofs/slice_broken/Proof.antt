@@ -3,35 +3,14 @@ use borrow.Author.Needs.{needs}
 use Rattle.rules.proofs.slice_broken.Statement.{statement}
 use Rattle.rules.proofs.slice_broken.Tie as tie
 
-rank-of-requires : tie.Need-rank-of-requires
-rank-of-requires c κs = search needs
-
-sides-of-requires : tie.Need-sides-of-requires
-sides-of-requires c κs = search needs
-
-same-element-requires : tie.Need-same-element-requires
-same-element-requires c κs = search needs
-
-three-of-requires : tie.Need-three-of-requires
-three-of-requires c κs = search needs
-
 all-dims-requires : tie.Need-all-dims-requires
 all-dims-requires c κs = rw (c .before .before .sides-of .ensures) (record { sized = c .before .before .before .before .pre .0; few = c .before .before .before .before .pre .1 })
 
 all-dims-requires-2 : tie.Need-all-dims-requires-2
 all-dims-requires-2 c κs = rw (c .before .before .before .sides-of .ensures) (record { sized = c .before .before .before .before .before .pre .0; few = c .before .before .before .before .before .pre .1 })
 
-rank-of-requires-2 : tie.Need-rank-of-requires-2
-rank-of-requires-2 c κs = search needs
-
 all-dims-requires-3 : tie.Need-all-dims-requires-3
 all-dims-requires-3 c κs = rw (c .before .before .before .before .before .sides-of .ensures) (record { sized = c .before .before .before .before .before .before .before .pre .0; few = c .before .before .before .before .before .before .before .pre .1 })
-
-both-requires : tie.Need-both-requires
-both-requires c κs = search needs
-
-first-broken-requires : tie.Need-first-broken-requires
-first-broken-requires c κs = search needs
 
 returns : tie.Need-returns
 unfolding sliceConstraints
@@ -41,14 +20,5 @@ pub slice-broken-spec : {M : Type 1} → statement M
 slice-broken-spec =
     tie.close
     (tie.spec
-    rank-of-requires
-    sides-of-requires
-    same-element-requires
-    three-of-requires
-    all-dims-requires
-    all-dims-requires-2
-    rank-of-requires-2
-    all-dims-requires-3
-    both-requires
-    first-broken-requires
-    returns)
+    (λ c κs. search needs) (λ c κs. search needs) (λ c κs. search needs) (λ c κs. search needs) all-dims-requires all-dims-requires-2
+    (λ c κs. search needs) all-dims-requires-3 (λ c κs. search needs) (λ c κs. search needs) returns)

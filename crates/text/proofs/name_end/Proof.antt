@@ -4,15 +4,6 @@ use borrow.Author.Needs.{needs}
 use Rattle.text.proofs.name_end.Statement.{statement}
 use Rattle.text.proofs.name_end.Tie as tie
 
-byte-at-requires : tie.Need-byte-at-requires
-byte-at-requires c κs = search needs
-
-is-letter-requires : tie.Need-is-letter-requires
-is-letter-requires c κs = search needs
-
-run-end-requires : tie.Need-run-end-requires
-run-end-requires c κs = search needs
-
 returns : tie.Need-returns
 unfolding nameEnd
 returns c = simp (← c .before .before .before .byte-at .ensures, ← c .before .before .is-letter .ensures, c .before .if1 .taken, ← c .run-end .ensures)
@@ -20,9 +11,6 @@ returns c = simp (← c .before .before .before .byte-at .ensures, ← c .before
 returns-2 : tie.Need-returns-2
 unfolding nameEnd
 returns-2 c = simp (← c .before .before .before .byte-at .ensures, ← c .before .before .is-letter .ensures, c .before .if1 .left, eq-eqb _ _ (c .if2 .taken))
-
-run-end-requires-2 : tie.Need-run-end-requires-2
-run-end-requires-2 c κs = search needs
 
 returns-3 : tie.Need-returns-3
 unfolding nameEnd
@@ -32,10 +20,4 @@ pub name-end-spec : {M : Type 1} → statement M
 name-end-spec =
     tie.close
     (tie.spec
-    byte-at-requires
-    is-letter-requires
-    run-end-requires
-    returns
-    returns-2
-    run-end-requires-2
-    returns-3)
+    (λ c κs. search needs) (λ c κs. search needs) (λ c κs. search needs) returns returns-2 (λ c κs. search needs) returns-3)

@@ -3,12 +3,10 @@ use borrow.Author.Needs.{needs}
 use Rattle.text.proofs.plain_word.Statement.{statement}
 use Rattle.text.proofs.plain_word.Tie as tie
 
-run-end-requires : tie.Need-run-end-requires
-run-end-requires c κs = search needs
-
 returns : tie.Need-returns
 unfolding plainWord
 returns c = simp (← c .run-end .ensures)
 
 pub plain-word-spec : {M : Type 1} → statement M
-plain-word-spec = tie.close (tie.spec run-end-requires returns)
+plain-word-spec = tie.close (tie.spec
+    (λ c κs. search needs) returns)

@@ -7,33 +7,12 @@ use borrow.Author.Needs.{needs}
 use Rattle.text.proofs.quote_token.Statement.{statement}
 use Rattle.text.proofs.quote_token.Tie as tie
 
-add-word-end : tie.Need-add-word-end
-add-word-end c = search needs
-
-word-end-requires : tie.Need-word-end-requires
-word-end-requires c κs = search needs
-
-byte-at-requires : tie.Need-byte-at-requires
-byte-at-requires c κs = search needs
-
-mark-token-requires : tie.Need-mark-token-requires
-mark-token-requires c κs = search needs
-
 returns : tie.Need-returns
 unfolding quoteToken
 returns c = simp (← c .before .before .before .word-end .ensures, ← c .before .before .byte-at .ensures, ne-eqb _ _ (c .before .if1 .taken), ← c .mark-token .ensures)
 
 add-word-end-2 : tie.Need-add-word-end-2
 add-word-end-2 c = omega (arith, byte-inside (now (c .before .before .before .before .args .text)) (c .before .before .word-end .result) (c .before .byte-at .ensures) (c .if1 .left) (omega arith))
-
-word-end-requires-2 : tie.Need-word-end-requires-2
-word-end-requires-2 c κs = search needs
-
-byte-at-requires-2 : tie.Need-byte-at-requires-2
-byte-at-requires-2 c κs = search needs
-
-mark-token-requires-2 : tie.Need-mark-token-requires-2
-mark-token-requires-2 c κs = search needs
 
 returns-2 : tie.Need-returns-2
 unfolding quoteToken
@@ -50,15 +29,5 @@ pub quote-token-spec : {M : Type 1} → statement M
 quote-token-spec =
     tie.close
     (tie.spec
-    add-word-end
-    word-end-requires
-    byte-at-requires
-    mark-token-requires
-    returns
-    add-word-end-2
-    word-end-requires-2
-    byte-at-requires-2
-    mark-token-requires-2
-    returns-2
-    add-t5
-    returns-3)
+    (λ c. search needs) (λ c κs. search needs) (λ c κs. search needs) (λ c κs. search needs) returns add-word-end-2 (λ c κs. search needs)
+    (λ c κs. search needs) (λ c κs. search needs) returns-2 add-t5 returns-3)

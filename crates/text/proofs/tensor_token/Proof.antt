@@ -13,21 +13,12 @@ use Rattle.text.proofs.tensor_token.Tie as tie
 add-type-close : tie.Need-add-type-close
 add-type-close c = let h : 7 ≤ length (now (c .before .args .text)) - c .before .args .at = starts-inside (ascii "tensor<") (now (c .before .args .text)) (c .before .args .at) (c .before .pre) in omega arith
 
-type-close-requires : tie.Need-type-close-requires
-type-close-requires c κs = search needs
-
-byte-at-requires : tie.Need-byte-at-requires
-byte-at-requires c κs = search needs
-
 add-t7 : tie.Need-add-t7
 add-t7 c = omega (arith, byte-inside (now (c .before .before .before .before .args .text)) (c .before .before .type-close .result) (c .before .byte-at .ensures) (c .if1 .taken) (omega arith))
 
 returns : tie.Need-returns
 unfolding tensorToken
 returns c = simp (← c .before .before .type-close .ensures, ← c .before .byte-at .ensures, eq-eqb _ _ (c .if1 .taken))
-
-plain-word-requires : tie.Need-plain-word-requires
-plain-word-requires c κs = search needs
 
 returns-2 : tie.Need-returns-2
 unfolding tensorToken
@@ -37,10 +28,4 @@ pub tensor-token-spec : {M : Type 1} → statement M
 tensor-token-spec =
     tie.close
     (tie.spec
-    add-type-close
-    type-close-requires
-    byte-at-requires
-    add-t7
-    returns
-    plain-word-requires
-    returns-2)
+    add-type-close (λ c κs. search needs) (λ c κs. search needs) add-t7 returns (λ c κs. search needs) returns-2)

@@ -8,7 +8,7 @@ use Rattle.attributes.proofs.choice_of.Reads as choice-of-reads
 use Rattle.attributes.proofs.dense_type.Reads as dense-type-reads
 use Rattle.attributes.proofs.numbers_of.Reads as numbers-of-reads
 use Rattle.places.proofs.type_of.Reads as type-of-reads
-use Rattle.typing.proofs.arity_of.Reads as arity-of-reads
+use Rattle.operands.proofs.arity_of.Reads as arity-of-reads
 use Rattle.typing.proofs.body_type.Reads as body-type-reads
 use Rattle.typing.proofs.types_of.Reads as types-of-reads
 

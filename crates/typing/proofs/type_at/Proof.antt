@@ -7,7 +7,7 @@ use Rattle.typing.proofs.type_at.Reads as reads
 use Rattle.typing.proofs.type_at.Lts as lts
 use Rattle.places.proofs.blank_type.Reads as blank-type-reads
 use Rattle.places.proofs.type_of.Reads as type-of-reads
-use Rattle.typing.proofs.arity_of.Reads as arity-of-reads
+use Rattle.operands.proofs.arity_of.Reads as arity-of-reads
 
 -- src/lib.rt:107:12
 arity-of-requires : tie.Need-arity-of-requires

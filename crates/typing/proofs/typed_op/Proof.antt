@@ -10,7 +10,7 @@ use Rattle.dimrules.proofs.both.Reads as both-reads
 use Rattle.opcheck.proofs.taken_by_tables.Reads as taken-by-tables-reads
 use Rattle.typing.proofs.bodies_fit.Reads as bodies-fit-reads
 use Rattle.typing.proofs.in_table.Reads as in-table-reads
-use Rattle.typing.proofs.operands_typed.Reads as operands-typed-reads
+use Rattle.operands.proofs.operands_typed.Reads as operands-typed-reads
 use Rattle.typing.proofs.results_are.Reads as results-are-reads
 
 -- src/lib.rt:195:22

@@ -1,3 +1,4 @@
+use Rattle.offsets.proofs.OffsetsLaw.{values-read}
 use Prim.Native.Nat.{ℕ}
 use lib.ListN.{length-replicate}
 use Rattle.values.proofs.ValuesLaw.{inputs-few}
@@ -28,7 +29,7 @@ slice-aggregate-program-refusal-2 c = search needs
 
 -- src/lib.rt:171:5
 program-refusal-requires : tie.Need-program-refusal-requires
-program-refusal-requires c κs = (rw (c .before .before .values-in .ensures) (inputs-few _ _), record { few = c .before .before .before .before .before .pre; stacked = length-replicate {A = ℕ} 655380 0; named = length-replicate {A = ℕ} 65801 0 })
+program-refusal-requires c κs = (rw (c .before .before .values-in .ensures) (inputs-few _ _), rw (c .before .before .values-in .ensures) (values-read _ _), record { few = c .before .before .before .before .before .pre; stacked = length-replicate {A = ℕ} 655380 0; named = length-replicate {A = ℕ} 65801 0 })
 
 -- src/lib.rt:163:1
 returns : tie.Need-returns

@@ -6,7 +6,7 @@ use Rattle.verify.proofs.program_refusal.Tie as tie
 use Rattle.verify.proofs.program_refusal.Reads as reads
 use Rattle.verify.proofs.program_refusal.Lts as lts
 use Rattle.known.proofs.input_names.Reads as input-names-reads
-use Rattle.verify.proofs.by_name.Reads as by-name-reads
+use Rattle.opwise.proofs.by_name.Reads as by-name-reads
 use Rattle.verify.proofs.ops_refusal.Reads as ops-refusal-reads
 
 -- src/lib.rt:155:9

@@ -1,0 +1,95 @@
+-- A text that is accepted (refusal 0): each op has what its class asks, its operands name earlier values and have their types, and the program
+-- is one to which demand 3 applies.
+-- Assumes nothing.
+use mathlib.Core.Path.{_≡_, refl}
+use mathlib.Core.Bool.{true}
+use mathlib.Core.List.{List}
+use Prim.Native.Nat.{ℕ, _+_, _<_, _≤_}
+use lib.ListN.{getD}
+use Rattle.run.specs.Ways.{OrderFree}
+use Rattle.elementwise.specs.Elementwise.{Tensor}
+use Rattle.ops.specs.Ops.{hlo}
+use Rattle.ops.specs.Typed.{HoldAll, Accepted, StartsAtIdentity}
+use Rattle.ops.proofs.ProgramLaw.{hlo-order-free}
+use Rattle.judge.specs.Judge.{textRefusal}
+use Rattle.dimrules.specs.Types.{typeAt}
+use Rattle.program.specs.declared.Parts.{Parts}
+use Rattle.program.specs.declared.Program.{Program as Places}
+use Rattle.program.specs.Parts.{opAt}
+use Rattle.program.specs.Program.{programOf}
+use Rattle.places.specs.Places.{operandName, operandType, placeOf, typeOfPart}
+use Rattle.values.specs.declared.Values.{Values}
+use Rattle.values.specs.Values.{noValue, opsOf, valuesIn}
+use Rattle.offsets.specs.Offsets.{neededOf}
+use Rattle.known.specs.Known.{namesFault}
+use Rattle.operands.specs.Operands.{valueNamed, arityOf}
+use Rattle.outputs.specs.Outputs.{typedReturn}
+use Rattle.typing.specs.Typing.{rowOf, operationOf}
+use Rattle.facts.specs.Facts.{AcceptedAs, nodeType}
+use Rattle.verify.specs.Verify.{programRefusal, verdict}
+use Rattle.nodes.specs.Nodes.{kindOf, nodesOf, typesOf}
+use Rattle.nodes.proofs.TypedLaw.{typed-accepted}
+use Rattle.nodes.proofs.NodesLaw.{OpStands, defined-type, return-defined, operand-before, operand-type, nodes-accepted}
+use Rattle.nodes.proofs.VerdictLaw.{both-zero, ops-and-return, few-elements, each-passed, op-stands, return-stands, ops-stand}
+
+module _ (text : List ℕ) where
+  -- its parts, its values, and op k
+  abbrev p : Places
+  p = programOf text
+
+  abbrev vs : Values
+  vs = valuesIn text (programOf text)
+
+  abbrev opOf : ℕ → Parts
+  opOf k = opAt text (getD (programOf text .ops) k 0)
+
+  module _ (e : verdict text .number ≡ 0) where
+    program-passes : programRefusal text p vs .number ≡ 0
+    unfolding verdict
+    program-passes = both-zero (textRefusal text .number) (programRefusal text p vs) (textRefusal text) refl e .1
+
+    -- "ops .., and `"func.return"` last": all of them are read
+    pub accepted-count : opsOf p + 1 ≡ p .count
+    accepted-count = ops-and-return text p vs program-passes
+
+    -- size 3: the slots needed
+    pub accepted-elements : neededOf vs ≤ 8192
+    accepted-elements = few-elements text p vs program-passes
+
+    -- refusals 5 and 6, of every op and of the return
+    pub accepted-names : (k : ℕ) → k < p .count → namesFault text (vs .list) (vs .inputs + k) (getD (p .ops) k 0) .refusal ≡ 0
+    accepted-names k l = each-passed text p vs program-passes k l .names
+
+    -- refusals 7 and 8
+    pub accepted-stands : (k : ℕ) → k < opsOf p → OpStands text (opOf k) (vs .list) (vs .inputs + k)
+    accepted-stands = op-stands text p vs program-passes
+
+    pub accepted-return : typedReturn text (opOf (opsOf p)) (p .header) (vs .list) (vs .inputs + opsOf p) ≡ true
+    accepted-return = return-stands text p vs program-passes
+
+    pub op-accepted : (k : ℕ) → k < opsOf p → AcceptedAs (kindOf text (opOf k)) (operationOf text (opOf k) (rowOf text (opOf k)))
+    op-accepted k l = let h = accepted-stands k l in typed-accepted text (opOf k) (vs .list) (vs .inputs + k) (h .typed) (h .held)
+
+    -- operand j of op k: the value that it names, by its number, is an input or an earlier op's result, and has the type that is written
+    pub operands-defined : (k : ℕ) → k < opsOf p → (j : ℕ) → j < arityOf (opOf k)
+        → (valueNamed text (vs .list) (vs .inputs + k) (placeOf (opOf k) operandName j) < vs .inputs + k)
+        × (nodeType (typeAt (operationOf text (opOf k) (rowOf text (opOf k)) .types) j)
+        ≡ nodeType (getD (vs .list) (valueNamed text (vs .list) (vs .inputs + k) (placeOf (opOf k) operandName j)) noValue .ty))
+    operands-defined k l j m = (operand-before text p (ops-stand text p vs program-passes) k l j m, operand-type text p (ops-stand text p vs program-passes) k l j m)
+
+    -- so what the return names
+    pub returns-defined : (j : ℕ) → j < arityOf (opOf (opsOf p))
+        → (valueNamed text (vs .list) (vs .inputs + opsOf p) (placeOf (opOf (opsOf p)) operandName j) < vs .inputs + opsOf p)
+        × (nodeType (typeOfPart text (opOf (opsOf p)) operandType j)
+        ≡ nodeType (getD (vs .list) (valueNamed text (vs .list) (vs .inputs + opsOf p) (placeOf (opOf (opsOf p)) operandName j)) noValue .ty))
+    returns-defined j m =
+        let d = return-defined text p (ops-stand text p vs program-passes) j m in
+        (d .before, defined-type text p (opOf (opsOf p)) (vs .inputs + opsOf p) j d)
+
+    pub accepted-program : Accepted (typesOf text) (nodesOf text)
+    unfolding typesOf nodesOf
+    accepted-program = nodes-accepted text p (ops-stand text p vs program-passes)
+
+    -- demand 3 of 01 for the text's program
+    pub text-order-free : StartsAtIdentity (nodesOf text) → (inputs : List Tensor) → HoldAll (typesOf text) inputs → (b : ℕ) → OrderFree hlo (nodesOf text) inputs b
+    text-order-free = hlo-order-free (typesOf text) (nodesOf text) accepted-program

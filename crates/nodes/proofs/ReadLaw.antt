@@ -1,0 +1,164 @@
+-- What is read of any op is within the sizes of 01; and what attributes that fit their row give of the attribute that must stand first.
+-- Assumes nothing.
+use mathlib.Core.Path.{_≡_, refl}
+use mathlib.Core.Bool.{Bool, true, false, _&&_, false≢true}
+use mathlib.Core.List.{List, [], _∷_}
+use Prim.Native.Nat.{ℕ, suc, _<_}
+use native.Mathlib.Nat.{not-suc-le-zero, le-of-suc-le-suc}
+use lib.Dec.{ltb, eqb}
+use lib.ListN.{length, getD}
+use borrow.Author.Tests.{ltb-true, eqb-true, eq-eqb}
+use Rattle.lists.specs.Lists.{pick, tab, firstWhere, allBelow}
+use Rattle.lists.proofs.SearchLaw.{all-at}
+use Rattle.lists.proofs.TabLaw.{length-tab, getD-tab}
+use Rattle.shape.specs.Index.{size}
+use Rattle.shape.specs.Dims.{dimsOf}
+use Rattle.elementwise.specs.Elementwise.{Holds}
+use Rattle.optable.specs.Table.{value, iotaDimension, dimension, Dense, Number, attributes, attributeKind, ops, rowAt, ruleCode}
+use Rattle.optable.specs.Find.{slotIn}
+use Rattle.optable.specs.declared.Row.{Row}
+use Rattle.optable.specs.declared.Rule.{Rule}
+use Rattle.optable.specs.declared.Rule.the-variants.{Concatenate as ConcatenateRule, Constant as ConstantRule, Iota as IotaRule}
+use Rattle.attribute.specs.Attribute.{formAt, denseAt}
+use Rattle.dense.proofs.LengthLaw.{dense-length, dense-values}
+use Rattle.dimrules.specs.declared.TensorType.{TensorType}
+use Rattle.program.specs.declared.Parts.{Parts}
+use Rattle.places.specs.Places.{operandType, resultType, attributeName, bodyOpen, placeOf, blankType, typeIn, typeOfPart}
+use Rattle.places.proofs.TypeInLaw.{type-in-sized, type-in-six}
+use Rattle.attributes.specs.Attributes.{attributesOf, attributeOf, standsAt, stands, denseFits, kindFits, attributeFits, neededAt, attributesFit, nameOf, numbersBy, numbersOf, denseType}
+use Rattle.attributes.proofs.AttributesLaw.{numbers-few, numbers-six, dense-type-sized, dense-type-six, attributes-each, attributes-needed}
+use Rattle.bodies.proofs.BodiesLaw.{argument-six}
+use Rattle.operands.specs.Operands.{arityOf}
+use Rattle.typing.specs.Typing.{typesOf, bodyType, operationOf}
+use Rattle.operands.proofs.OperandsLaw.{arity-few}
+use Rattle.typing.proofs.TypingLaw.{types-at, type-sized, body-sized}
+use Rattle.facts.specs.Facts.{SixDims, ShapeRead, ListRead, Shaped}
+use Rattle.nodes.specs.Nodes.{elementsOf}
+
+-- ---- sizes
+
+pub part-read : (text : List ℕ) (p : Parts) (k j : ℕ) → ShapeRead (typeOfPart text p k j .shape)
+unfolding typeOfPart
+part-read text p k j = record { sized = type-in-sized text (placeOf p k j); six = type-in-six text (placeOf p k j) }
+
+pick-six : (b : Bool) (x y : TensorType) → SixDims (x .shape) → SixDims (y .shape) → SixDims (pick b x y .shape)
+pick-six true x y p q = p
+pick-six false x y p q = q
+
+operand-read : (text : List ℕ) (op : Parts) (j : ℕ) → ShapeRead (typesOf text op j .shape)
+unfolding typesOf
+operand-read text op j =
+    record { sized = type-sized text op j; six = pick-six (ltb j (arityOf op)) (typeOfPart text op operandType j) blankType (part-read text op operandType j .six) refl }
+
+argument-read : (text : List ℕ) (op : Parts) (row : Row) (j : ℕ) → ShapeRead (bodyType text op row j .shape)
+unfolding bodyType
+argument-read text op row j =
+    record { sized = body-sized text op row j; six = pick-six (row .body) _ blankType (argument-six text (placeOf op bodyOpen 0) j) refl }
+
+list-read : (text : List ℕ) (op : Parts) (k : ℕ) → ListRead (numbersOf text op k)
+list-read text op k = record { few = numbers-few text op k; six = numbers-six text op k }
+
+pub operation-shaped : (text : List ℕ) (op : Parts) (row : Row) → Shaped (operationOf text op row)
+unfolding operationOf
+operation-shaped text op row =
+    record {
+      arity = arity-few op;
+      eight = length-tab 8 (typesOf text op);
+      types = λ j h. rw (types-at text op j h) (operand-read text op j);
+      result = part-read text op resultType 0;
+      value = record { sized = dense-type-sized text op value; six = dense-type-six text op value };
+      left = argument-read text op row 0;
+      right = argument-read text op row 1;
+      a = list-read text op (row .a);
+      b = list-read text op (row .b);
+      c = list-read text op (row .c);
+    }
+
+-- ---- the attribute that must stand first
+
+-- attribute k must stand first in a row of these constraints
+abbrev asks : Rule → ℕ → Row → Bool
+asks r k row = pick (eqb (ruleCode (row .rule)) (ruleCode r)) (ltb 0 (row .needed) && eqb (row .a) k) true
+
+pub both-true : (a b : Bool) → a && b ≡ true → (a ≡ true) × (b ≡ true)
+both-true true b e = (refl, e)
+both-true false b e = absurd (false≢true e)
+
+-- so in each of the table's rows
+first-asked : (r : Rule) (k : ℕ) → allBelow 34 (λ i. asks r k (rowAt i)) ≡ true → (i : ℕ) → i < 34 → rowAt i .rule ≡ r → (0 < rowAt i .needed) × (rowAt i .a ≡ k)
+first-asked r k all i l e =
+    let row = rowAt i in
+    let h = both-true (ltb 0 (row .needed)) (eqb (row .a) k) (rw (eq-eqb (ruleCode (row .rule)) (ruleCode r) (rw e)) at (all-at 34 (λ i. asks r k (rowAt i)) i all l)) in
+    (ltb-true 0 (row .needed) (h .0), eqb-true (row .a) k (h .1))
+
+constant-asks : allBelow 34 (λ i. asks ConstantRule value (rowAt i)) ≡ true
+unfolding allBelow rowAt ops ruleCode
+constant-asks = refl
+
+iota-asks : allBelow 34 (λ i. asks IotaRule iotaDimension (rowAt i)) ≡ true
+unfolding allBelow rowAt ops ruleCode
+iota-asks = refl
+
+concatenate-asks : allBelow 34 (λ i. asks ConcatenateRule dimension (rowAt i)) ≡ true
+unfolding allBelow rowAt ops ruleCode
+concatenate-asks = refl
+
+-- what is found passes the test
+found-passes : (t : ℕ → Bool) (s : List ℕ) → firstWhere t s < length s → t (getD s (firstWhere t s) 0) ≡ true
+unfolding firstWhere
+found-passes t [] l = absurd (not-suc-le-zero l)
+found-passes t (x ∷ xs) l = by-test (t x) refl l (found-passes t xs)
+  where
+    by-test : (b : Bool) → t x ≡ b → pick b 0 (suc (firstWhere t xs)) < suc (length xs)
+        → (firstWhere t xs < length xs → t (getD xs (firstWhere t xs) 0) ≡ true) → t (getD (x ∷ xs) (pick b 0 (suc (firstWhere t xs))) 0) ≡ true
+    by-test true e l ih = e
+    by-test false e l ih = ih (le-of-suc-le-suc l)
+
+-- an attribute that stands is there, at the place where it was found
+stands-there : (text : List ℕ) (op : Parts) (k : ℕ) → stands text op k ≡ true → (standsAt text op k < attributesOf op) × (attributeOf text op (standsAt text op k) ≡ k)
+unfolding stands standsAt
+stands-there text op k e =
+    let n = attributesOf op in
+    let t : ℕ → Bool = λ j. eqb (attributeOf text op j) k in
+    let f = firstWhere t (tab n (λ j. j)) in
+    let l : f < n = ltb-true f n e in
+    let p : t (getD (tab n (λ j. j)) f 0) ≡ true = found-passes t (tab n (λ j. j)) (rw (length-tab n (λ (j : ℕ). j)) l) in
+    (l, eqb-true (attributeOf text op f) k (rw (getD-tab n (λ j. j) f 0 l) at p))
+
+module _ (text : List ℕ) (op : Parts) (i : ℕ) (l : i < 34) (fit : attributesFit text op (rowAt i) ≡ true) where
+  first-stands : (k : ℕ) → (0 < rowAt i .needed) × (rowAt i .a ≡ k) → stands text op k ≡ true
+  unfolding neededAt
+  first-stands k h = rw (h .1) at (attributes-needed text op (rowAt i) fit 0 (h .0))
+
+  -- a number alone is the only one of its list
+  one-of : (k : ℕ) → attributeKind k ≡ Number → (0 < rowAt i .needed) × (rowAt i .a ≡ k) → numbersOf text op (rowAt i .a) .count ≡ 1
+  unfolding numbersOf numbersBy
+  one-of k e h = rw (h .1, first-stands k h, e)
+
+  pub iota-number : rowAt i .rule ≡ IotaRule → numbersOf text op (rowAt i .a) .count ≡ 1
+  unfolding attributeKind attributes
+  iota-number e = one-of iotaDimension refl (first-asked IotaRule iotaDimension iota-asks i l e)
+
+  pub concatenate-number : rowAt i .rule ≡ ConcatenateRule → numbersOf text op (rowAt i .a) .count ≡ 1
+  unfolding attributeKind attributes
+  concatenate-number e = one-of dimension refl (first-asked ConcatenateRule dimension concatenate-asks i l e)
+
+  -- the value of a constant is read whole
+  value-fits : stands text op value ≡ true → denseFits text (nameOf text op value) ≡ true
+  unfolding attributeFits kindFits attributeKind attributes nameOf
+  value-fits e =
+      let s = stands-there text op value e in
+      let j = standsAt text op value in
+      let f = attributes-each text op (rowAt i) fit j (s .0) in
+      let k = attributeOf text op j in
+      let g : kindFits text (placeOf op attributeName j) (attributeKind value) ≡ true =
+      rw (s .1) at (both-true (ltb k 15 && ltb (slotIn (rowAt i) k) 3 && eqb (standsAt text op k) j) (kindFits text (placeOf op attributeName j) (attributeKind k)) f .1) in
+      rw e (both-true (eqb (formAt text (placeOf op attributeName j)) Dense) (denseFits text (placeOf op attributeName j)) g .1)
+
+  pub constant-elements : rowAt i .rule ≡ ConstantRule → Holds (denseType text op value .element) (size (dimsOf (denseType text op value .shape))) (elementsOf text op)
+  unfolding denseType denseFits elementsOf
+  constant-elements e =
+      let s = first-stands value (first-asked ConstantRule value constant-asks i l e) in
+      let c = denseAt text (nameOf text op value) in
+      let t = typeIn text (c .ty) in
+      rw s (record { sized = dense-length (t .element) (dimsOf (t .shape)) text (c .literal) (value-fits s); ranged = dense-values (t .element) (dimsOf (t .shape)) text (c .literal) (value-fits s) })

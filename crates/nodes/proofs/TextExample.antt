@@ -1,0 +1,66 @@
+-- The program of a text that is accepted, computed.
+-- Assumes nothing.
+use mathlib.Core.Path.{_≡_, refl}
+use mathlib.Core.List.{List, [], _∷_, map}
+use Prim.Native.Nat.{ℕ}
+use Rattle.scan.specs.Ascii.{ascii}
+use Rattle.scalar.specs.declared.Body.the-variants.{Or}
+use Rattle.ops.specs.declared.Kind.the-variants.{Constant, Reduce}
+use Rattle.lists.specs.Lists.{firstWhere}
+use Rattle.scan.specs.Bytes.{inComment, inRun, isDigit, isLetter, isSigil, isSign, isSpace, runEnd, runFrom, skipEnd, skipFrom, startsWith}
+use Rattle.scan.specs.Quantized.{colonEnd, floatEnd, fractionEnd, integerEnd, moreEnd, parameterEnd, parametersEnd, quantizedEnd, scientificEnd, signEnd, storageEnd}
+use Rattle.scan.specs.TensorText.{elementEnd, typeClose}
+use Rattle.scan.specs.TypeText.{byteEnd, complexEnd, digitsEnd, shapeEnd, shapeFrom, sizeNext, wordEnd}
+use Rattle.text.specs.Lex.{lexeme, markToken, nameEnd, nameToken, plainWord, quoteToken, signToken, tensorToken, tokenAt, wordToken}
+use Rattle.text.specs.Names.{nameBytes, sameBytes, sameName, wordIs}
+use Rattle.types.specs.Numbers.{digitsFrom, inType, magnitudeOf, numberIn, numberOf}
+use Rattle.types.specs.Tensors.{allFit, countOf as countOfByte, dimensionsFrom, elementNamed, foreign, sizePassed as typeSizePassed, typeAfter, typeOf, typed, widthNamed}
+use Rattle.grammar.specs.Grammar.{grammar}
+use Rattle.grammar.specs.Machine.{cell, step}
+use Rattle.grammar.specs.Symbols.{leafKinds, matches}
+use Rattle.syntax.specs.Kinds.{kindOf as kindOfToken, markKind, nameKind, quotedKind, tokenKind, wordKind}
+use Rattle.syntax.specs.Readings.{readings, readingsFrom, readingsOf}
+use Rattle.optable.specs.Find.{findAttribute, findChoice, findChoiceKind, findOp, placeIn, same, slotIn}
+use Rattle.optable.specs.Table.{attributeKind, attributeNames, attributes, choiceKind, choiceKindNames, choiceKinds, choiceNames, choices, opNames, ops, rowAt}
+use Rattle.optable.specs.Takes.{operandTaken, resultTaken, takes}
+use Rattle.judge.specs.Judge.{earliest, refusalAt, textRefusal, unknown}
+use Rattle.judge.specs.Roles.{among}
+use Rattle.judge.specs.Sizes.{firstPassed, largeNumber, longList, longName, manyElements, manyItems, manyOps, passes, sizePassed, typePassed}
+use Rattle.judge.specs.Tally.{afterToken, counts, depthAfter as depthAfterRole, elementsAt, itemNumber, itemsAfter, opsAfter}
+use Rattle.program.specs.Parts.{addedTo, bodyAt, depthAfter as depthAfterPart, noParts, noted, opAt, partOf, partsAt, partsFrom, partsOf}
+use Rattle.program.specs.Program.{beginsOp, begun, inHeader, namesOp, namingAfter, noProgram, outlined, programFrom, programOf}
+use Rattle.attribute.specs.Attribute.{choiceAt, choiceForm, closeFrom, denseAt as denseAttribute, endsLiteral, formAt, goesOn, noNumbers, numberAt, numbersAt, numbersFrom, patternAt, tokenAfter, withNumber, wordForm}
+use Rattle.dense.specs.Dense.{andThen, before, booleanOf, denseAt, denseValue, itemsAt, literalOf, markAt, oneAt, sameAt as sameElements}
+use Rattle.dimrules.specs.Count.{everywhere, firstFailing}
+use Rattle.dimrules.specs.Dims.{dimTest, isFirst, isIn, keptBelow, keptIs}
+use Rattle.dimrules.specs.Types.{allTypes, sameButOne, sameElement, sameShape, sameType, sumOfDims, typeTest}
+use Rattle.dimrules.specs.Whole.{below, ceilingIs, inOrder, nonNegative, paddedIs, positive}
+use Rattle.rules.specs.Constraints.{absConstraints, broadcastConstraints, clampConstraints, compareConstraints, compareTypeIs, concatenateConstraints, constantConstraints, convertConstraints, dynamicSliceConstraints, iotaConstraints, padConstraints, reduceConstraints, reshapeConstraints, reverseConstraints, sameTypesConstraints, selectConstraints, sliceConstraints, transposeConstraints}
+use Rattle.opcheck.specs.Judged.{brokenBy, constraintsBy, takenAt, takenByTables}
+use Rattle.scope.specs.Scope.{begins, define, defines, ends, forget, inputsFrom, look, nameAt, namesFrom, namesOf, placed, sameAt as sameNameAt, settle, turned, visible}
+use Rattle.places.specs.Places.{countOf, placeOf, typeIn, typeOfPart}
+use Rattle.values.specs.Values.{inputValue, inputsOf, opsOf, resultValue, valueAt, valuesIn}
+use Rattle.known.specs.Known.{faultOf, inputsFault, knownNames, namesFault}
+use Rattle.attributes.specs.Attributes.{attributeFits, attributeOf, attributesFit, attributesOf, choiceFits, choiceOf, denseFits, denseType, kindFits, nameOf, neededAt, numbersBy, numbersOf, stands, standsAt}
+use Rattle.bodies.specs.Bodies.{argumentType, asFirst, bodyCounted, bodyFits, bodyRow, formed, hasCount, innerOp, isReducer, onBoth, oneType, opCounted, operandIs, returnsIt, rowNamed}
+use Rattle.operands.specs.Operands.{arityOf, operandTyped, operandsTyped, valueNamed}
+use Rattle.outputs.specs.Outputs.{returnJudged, returnedAt, returnsHeader, typedReturn}
+use Rattle.typing.specs.Typing.{bodiesFit, bodyType, inTable, opJudged, operationOf, resultsAre, rowOf, typedOp, typesOf as writtenTypes}
+use Rattle.offsets.specs.Offsets.{sizeAt, offsetAt, neededOf}
+use Rattle.opwise.specs.Opwise.{byName, byOp, opRefusal, opsFrom, typingOf}
+use Rattle.verify.specs.Verify.{counted, withinSizes, opsRefusal, programRefusal, verdict}
+use Rattle.nodes.specs.Nodes.{directionAt, elementsOf, inputTypes, kindOf, nodeAt, nodesIn, nodesOf, operandsOf, reducerAt, typesOf}
+
+unfoldable sample : List ℕ
+sample = ascii "func.func @m(%x: tensor<2xi8>) -> tensor<i8> { %s = \"stablehlo.constant\"() {value = dense<0> : tensor<i8>} : () -> tensor<i8> %r = \"stablehlo.reduce\"(%x, %s) ({ ^b(%a: tensor<i8>, %b: tensor<i8>): %c = \"stablehlo.or\"(%a, %b) : (tensor<i8>, tensor<i8>) -> tensor<i8> \"stablehlo.return\"(%c) : (tensor<i8>) -> () }) {dimensions = array<i64: 0>} : (tensor<2xi8>, tensor<i8>) -> tensor<i8> \"func.return\"(%r) : (tensor<i8>) -> () }"
+
+-- a value goes by its number: %x is 0, %s is 1 and %r is 2
+sample-program :
+    (verdict sample .number ≡ 0) × (nodesOf sample .inputs ≡ 1)
+    × (map (λ o. o .kind) (nodesOf sample .ops) ≡ Constant ∷ Reduce Or ∷ [])
+    × (map (λ o. o .operands) (nodesOf sample .ops) ≡ [] ∷ (0 ∷ 1 ∷ []) ∷ [])
+    × (map (λ o. o .values) (nodesOf sample .ops) ≡ (0 ∷ []) ∷ [] ∷ [])
+    × (map (λ o. o .first) (nodesOf sample .ops) ≡ [] ∷ (0 ∷ []) ∷ [])
+    × (nodesOf sample .returns ≡ 2 ∷ [])
+unfolding sample firstWhere inComment inRun isDigit isLetter isSigil isSign isSpace runEnd runFrom skipEnd skipFrom startsWith colonEnd floatEnd fractionEnd integerEnd moreEnd parameterEnd parametersEnd quantizedEnd scientificEnd signEnd storageEnd elementEnd typeClose byteEnd complexEnd digitsEnd shapeEnd shapeFrom sizeNext wordEnd lexeme markToken nameEnd nameToken plainWord quoteToken signToken tensorToken tokenAt wordToken nameBytes sameBytes sameName wordIs digitsFrom inType magnitudeOf numberIn numberOf allFit countOfByte dimensionsFrom elementNamed foreign typeSizePassed typeAfter typeOf typed widthNamed grammar cell step leafKinds matches kindOfToken markKind nameKind quotedKind tokenKind wordKind readings readingsFrom readingsOf findAttribute findChoice findChoiceKind findOp placeIn same slotIn attributeKind attributeNames attributes choiceKind choiceKindNames choiceKinds choiceNames choices opNames ops rowAt operandTaken resultTaken takes earliest refusalAt textRefusal unknown among firstPassed largeNumber longList longName manyElements manyItems manyOps passes sizePassed typePassed afterToken counts depthAfterRole elementsAt itemNumber itemsAfter opsAfter addedTo bodyAt depthAfterPart noParts noted opAt partOf partsAt partsFrom partsOf beginsOp begun inHeader namesOp namingAfter noProgram outlined programFrom programOf choiceAt choiceForm closeFrom denseAttribute endsLiteral formAt goesOn noNumbers numberAt numbersAt numbersFrom patternAt tokenAfter withNumber wordForm andThen before booleanOf denseAt denseValue itemsAt literalOf markAt oneAt sameElements everywhere firstFailing dimTest isFirst isIn keptBelow keptIs allTypes sameButOne sameElement sameShape sameType sumOfDims typeTest below ceilingIs inOrder nonNegative paddedIs positive absConstraints broadcastConstraints clampConstraints compareConstraints compareTypeIs concatenateConstraints constantConstraints convertConstraints dynamicSliceConstraints iotaConstraints padConstraints reduceConstraints reshapeConstraints reverseConstraints sameTypesConstraints selectConstraints sliceConstraints transposeConstraints brokenBy constraintsBy takenAt takenByTables begins define defines ends forget inputsFrom look nameAt namesFrom namesOf placed sameNameAt settle turned visible countOf placeOf typeIn typeOfPart inputValue inputsOf opsOf resultValue valueAt valuesIn faultOf inputsFault knownNames namesFault attributeFits attributeOf attributesFit attributesOf choiceFits choiceOf denseFits denseType kindFits nameOf neededAt numbersBy numbersOf stands standsAt argumentType asFirst bodyCounted bodyFits bodyRow formed hasCount innerOp isReducer onBoth oneType opCounted operandIs returnsIt rowNamed arityOf bodiesFit bodyType inTable opJudged operandTyped operandsTyped operationOf resultsAre returnJudged returnedAt returnsHeader rowOf typedOp typedReturn writtenTypes valueNamed byName byOp counted withinSizes neededOf offsetAt sizeAt opRefusal opsFrom opsRefusal programRefusal typingOf verdict directionAt elementsOf inputTypes kindOf nodeAt nodesIn nodesOf operandsOf reducerAt typesOf
+sample-program = (refl, refl, refl, refl, refl, refl, refl)

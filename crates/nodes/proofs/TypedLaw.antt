@@ -1,0 +1,135 @@
+-- An op that is typed and breaks no constraint: it is accepted by its class, and its operands are defined with the types that it writes.
+-- Assumes nothing.
+use mathlib.Core.Path.{_≡_, ap, _∙_}
+use mathlib.Core.Bool.{true, _&&_}
+use mathlib.Core.List.{List}
+use Prim.Native.Nat.{ℕ, _<_}
+use native.Mathlib.Omega.{arith}
+use lib.Dec.{ltb, eqb}
+use lib.ListN.{getD}
+use borrow.Author.Tests.{ltb-true, lt-ltb}
+use Rattle.shape.specs.Dims.{dimsOf}
+use Rattle.ops.specs.declared.Kind.{Kind}
+use Rattle.ops.specs.declared.Kind.the-variants.{Constant, Iota, Elementwise, Pairwise, Quotient, Compare, Convert, Select, Clamp, Moved, Pad, Concatenate, DynamicSlice, Reduce}
+use Rattle.ops.specs.Typed.{Granted as NodeGranted}
+use Rattle.optable.specs.Table.{comparisonDirection}
+use Rattle.optable.specs.declared.Row.{Row}
+use Rattle.dimrules.specs.Count.{everywhere}
+use Rattle.dimrules.proofs.CountLaw.{holds-at}
+use Rattle.dimrules.specs.Types.{sameType, typeAt}
+use Rattle.dimrules.specs.declared.TensorType.{TensorType}
+use Rattle.rules.proofs.FactLaw.{same-type}
+use Rattle.opcheck.specs.Judged.{takenByTables, brokenBy}
+use Rattle.program.specs.declared.Parts.{Parts}
+use Rattle.places.specs.Places.{opName, operandName, operandType, bodyOpen, countOf, placeOf, typeOfPart}
+use Rattle.values.specs.declared.Value.{Value}
+use Rattle.values.specs.Values.{noValue}
+use Rattle.attributes.specs.Attributes.{attributesFit, choiceOf}
+use Rattle.bodies.specs.Bodies.{rowNamed, bodyRow}
+use Rattle.operands.specs.Operands.{valueNamed, arityOf, operandTyped, operandsTyped}
+use Rattle.typing.specs.Typing.{rowOf, typesOf, operationOf, resultsAre, bodiesFit, inTable, typedOp}
+use Rattle.operands.proofs.OperandsLaw.{arity-few}
+use Rattle.typing.proofs.TypingLaw.{types-at}
+use Rattle.facts.specs.Facts.{ShapeRead, ruleOf, OneNumber, RowFor, AcceptedAs, nodeType, nodeFor}
+use Rattle.facts.proofs.AcceptedLaw.{row-for, accepted}
+use Rattle.facts.proofs.BridgeLaw.{alike-dims}
+use Rattle.facts.proofs.NodeLaw.{node-granted}
+use Rattle.nodes.specs.Nodes.{directionAt, reducerAt, kindOf, elementsOf}
+use Rattle.nodes.proofs.ReadLaw.{operation-shaped, both-true, iota-number, concatenate-number, constant-elements}
+
+-- two types of one meaning, by the lists of their dimensions
+pub same-node-type : (x y : TensorType) → ShapeRead (x .shape) → ShapeRead (y .shape) → sameType x y ≡ true → nodeType x ≡ nodeType y
+same-node-type x y p q e =
+    let a = same-type x y e in
+    let d : dimsOf (x .shape) ≡ dimsOf (y .shape) = alike-dims (x .shape) (y .shape) p q (a .shape) in
+    let t : x .element ≡ y .element = a .element in
+    rw (d, t)
+
+-- ---- the parts of refusal 7
+
+pub record TypedParts (text : List ℕ) (op : Parts) (row : Row) (values : List Value) (n : ℕ) : Type 0 where
+  pub table : inTable text op ≡ true
+  pub operands : operandsTyped text op values n ≡ true
+  pub attributes : attributesFit text op row ≡ true
+  pub taken : takenByTables row (operationOf text op row) ≡ true
+
+pub typed-parts : (text : List ℕ) (op : Parts) (row : Row) (values : List Value) (n : ℕ) → typedOp text op row values n ≡ true → TypedParts text op row values n
+unfolding typedOp
+typed-parts text op row values n e =
+    let o = operationOf text op row in
+    let a = inTable text op in
+    let b = operandsTyped text op values n in
+    let h = both-true (a && b && resultsAre 1 op && attributesFit text op row && takenByTables row o) (bodiesFit text op row) e in
+    let g = both-true (a && b && resultsAre 1 op && attributesFit text op row) (takenByTables row o) (h .0) in
+    let f = both-true (a && b && resultsAre 1 op) (attributesFit text op row) (g .0) in
+    let d = both-true (a && b) (resultsAre 1 op) (f .0) in
+    let c = both-true a b (d .0) in
+    record { table = c .0; operands = c .1; attributes = f .1; taken = g .1 }
+
+-- ---- operands
+
+-- operand j names a value that is defined, and is written with its type
+pub record Defined (text : List ℕ) (op : Parts) (values : List Value) (n j : ℕ) : Type 0 where
+  pub before : valueNamed text values n (placeOf op operandName j) < n
+  pub alike : sameType (typeOfPart text op operandType j) (getD values (valueNamed text values n (placeOf op operandName j)) noValue .ty) ≡ true
+
+pub all-defined : (text : List ℕ) (op : Parts) (values : List Value) (n : ℕ) → operandsTyped text op values n ≡ true → (j : ℕ) → j < arityOf op → Defined text op values n j
+unfolding operandsTyped operandTyped
+all-defined text op values n e j l =
+    let i = valueNamed text values n (placeOf op operandName j) in
+    let t = holds-at (arityOf op) (operandTyped text op values n)
+    (both-true (ltb (countOf op operandName) 9 && eqb (countOf op operandType) (countOf op operandName)) (everywhere (arityOf op) (operandTyped text op values n)) e .1) j l in
+    let h = both-true (ltb i n) (sameType (typeOfPart text op operandType j) (getD values i noValue .ty)) t in
+    record { before = ltb-true i n (h .0); alike = h .1 }
+
+-- the type of operand j is the one that it writes
+pub written-at : (text : List ℕ) (op : Parts) (row : Row) (j : ℕ) → j < arityOf op → typeAt (operationOf text op row .types) j ≡ typeOfPart text op operandType j
+unfolding operationOf typesOf
+written-at text op row j l = let few = arity-few op in types-at text op j (omega arith) ∙ rw (lt-ltb j (arityOf op) l)
+
+-- ---- the op
+
+module _ (text : List ℕ) (op : Parts) (values : List Value) (n : ℕ) (typed : typedOp text op (rowOf text op) values n ≡ true) where
+  abbrev row : ℕ
+  row = rowNamed text (placeOf op opName 0)
+
+  parts : TypedParts text op (rowOf text op) values n
+  parts = typed-parts text op (rowOf text op) values n typed
+
+  inside : row < 34
+  unfolding inTable
+  inside = ltb-true row 34 (parts .table)
+
+  row-of-kind : RowFor (kindOf text op) (rowOf text op)
+  unfolding kindOf rowOf
+  row-of-kind = row-for (directionAt (choiceOf text op comparisonDirection)) (reducerAt (bodyRow text (placeOf op bodyOpen 0))) row inside
+
+  one-number : (kind : Kind) → RowFor kind (rowOf text op) → OneNumber kind (operationOf text op (rowOf text op))
+  unfolding rowOf operationOf
+  one-number Iota r = iota-number text op row inside (parts .attributes) (r .rule)
+  one-number Concatenate r = concatenate-number text op row inside (parts .attributes) (r .rule)
+  one-number Constant r = tt
+  one-number (Elementwise o) r = tt
+  one-number (Pairwise o) r = tt
+  one-number (Quotient o) r = tt
+  one-number (Compare d) r = tt
+  one-number Convert r = tt
+  one-number Select r = tt
+  one-number Clamp r = tt
+  one-number (Moved m) r = tt
+  one-number Pad r = tt
+  one-number DynamicSlice r = tt
+  one-number (Reduce body) r = tt
+
+  module _ (held : brokenBy (rowOf text op .rule) (operationOf text op (rowOf text op)) ≡ 0) where
+    pub typed-accepted : AcceptedAs (kindOf text op) (operationOf text op (rowOf text op))
+    typed-accepted =
+        accepted (kindOf text op) (rowOf text op) (operationOf text op (rowOf text op)) row-of-kind (operation-shaped text op (rowOf text op))
+        (one-number (kindOf text op) row-of-kind) (parts .taken) held
+
+    -- a constant's elements are of its type
+    pub typed-granted : (operands : List ℕ) → NodeGranted (nodeFor (kindOf text op) (operationOf text op (rowOf text op)) (elementsOf text op) operands) (kindOf text op)
+    unfolding rowOf operationOf
+    typed-granted operands =
+        node-granted (kindOf text op) (operationOf text op (rowOf text op)) typed-accepted (elementsOf text op) operands
+        (λ e. constant-elements text op row inside (parts .attributes) (row-of-kind .rule ∙ ap ruleOf e))

@@ -1,0 +1,83 @@
+-- The program of a text as evaluating and free runs take it: each op by its class with its types, attributes and operands, a value by its number.
+-- Assumes nothing.
+use Prim.Native.Nat.{ℕ, _+_}
+use mathlib.Core.List.{List, [], _∷_}
+use lib.ListN.{getD}
+use lib.Dec.{eqb}
+use Rattle.lists.specs.Lists.{pick, tab}
+use Rattle.run.specs.Run.{Program}
+use Rattle.scalar.specs.declared.Direction.{Direction}
+use Rattle.scalar.specs.declared.Direction.the-variants.{Eq, Ne, Ge, Gt, Le, Lt}
+use Rattle.scalar.specs.declared.Body.{Body}
+use Rattle.scalar.specs.declared.Body.the-variants.{Add, Multiply, Maximum, Minimum, And, Or, Xor}
+use Rattle.shape.specs.Dims.{dimsOf}
+use Rattle.elementwise.specs.Elementwise.{Tensor}
+use Rattle.ops.specs.declared.Kind.{Kind}
+use Rattle.ops.specs.Ops.{Node, TensorType as NodeType}
+use Rattle.optable.specs.Table.{value, comparisonDirection}
+use Rattle.attribute.specs.Attribute.{denseAt}
+use Rattle.dense.specs.Dense.{denseValue}
+use Rattle.program.specs.declared.Parts.{Parts}
+use Rattle.program.specs.declared.Program.{Program as Places}
+use Rattle.program.specs.Parts.{opAt}
+use Rattle.program.specs.Program.{programOf}
+use Rattle.places.specs.Places.{opName, operandName, bodyOpen, placeOf, typeIn}
+use Rattle.values.specs.declared.Value.{Value}
+use Rattle.values.specs.declared.Values.{Values}
+use Rattle.values.specs.Values.{noValue, opsOf, valuesIn}
+use Rattle.attributes.specs.Attributes.{nameOf, choiceOf}
+use Rattle.bodies.specs.Bodies.{rowNamed, bodyRow}
+use Rattle.operands.specs.Operands.{valueNamed, arityOf}
+use Rattle.typing.specs.Typing.{rowOf, operationOf}
+use Rattle.facts.specs.Facts.{kindAt, nodeType, nodeFor}
+
+-- comparison_direction's choices in the order of the op table
+unfoldable pub directionAt : ℕ → Direction
+directionAt choice = getD (Eq ∷ Ne ∷ Ge ∷ Gt ∷ Le ∷ Lt ∷ []) choice Eq
+
+-- the op of a body, by its row of the op table
+unfoldable pub reducerAt : ℕ → Body
+reducerAt row =
+    pick (eqb row 1) Add (pick (eqb row 15) Multiply (pick (eqb row 13) Maximum (pick (eqb row 14) Minimum (pick (eqb row 2) And (pick (eqb row 18) Or Xor)))))
+
+-- the class of an op, by its row
+unfoldable pub kindOf : List ℕ → Parts → Kind
+kindOf text op =
+    kindAt (directionAt (choiceOf text op comparisonDirection)) (reducerAt (bodyRow text (placeOf op bodyOpen 0))) (rowNamed text (placeOf op opName 0))
+
+-- the elements of a constant's dense value
+unfoldable pub elementsOf : List ℕ → Parts → Tensor
+elementsOf text op =
+    let c = denseAt text (nameOf text op value) in
+    let t = typeIn text (c .ty) in
+    denseValue (t .element) (dimsOf (t .shape)) text (c .literal) .elements
+
+-- the numbers of the values that its operands name, n values being defined before
+unfoldable pub operandsOf : List ℕ → Parts → List Value → ℕ → List ℕ
+operandsOf text op values n = tab (arityOf op) (λ j. valueNamed text values n (placeOf op operandName j))
+
+-- op k
+unfoldable pub nodeAt : List ℕ → Places → Values → ℕ → Node
+nodeAt text p vs k =
+    let op = opAt text (getD (p .ops) k 0) in
+    nodeFor (kindOf text op) (operationOf text op (rowOf text op)) (elementsOf text op) (operandsOf text op (vs .list) (vs .inputs + k))
+
+-- the types of the inputs
+unfoldable pub inputTypes : Values → List NodeType
+inputTypes vs = tab (vs .inputs) (λ i. nodeType (getD (vs .list) i noValue .ty))
+
+-- the ops in text order, and the values that the return names
+unfoldable pub nodesIn : List ℕ → Places → Values → Program Node
+nodesIn text p vs =
+    record {
+      inputs = vs .inputs;
+      ops = tab (opsOf p) (nodeAt text p vs);
+      returns = operandsOf text (opAt text (getD (p .ops) (opsOf p) 0)) (vs .list) (vs .inputs + opsOf p);
+    }
+
+-- the program of a text
+unfoldable pub nodesOf : List ℕ → Program Node
+nodesOf text = nodesIn text (programOf text) (valuesIn text (programOf text))
+
+unfoldable pub typesOf : List ℕ → List NodeType
+typesOf text = inputTypes (valuesIn text (programOf text))
