@@ -2,8 +2,7 @@
 use element::ElementType;
 use scalar::Direction;
 
-// compare: 000, times ten as integers; the other directions on the same operands
-pub fn compare_examples() {
+fn first_directions() {
     let x0 = [10u64, 30];
     let y0 = [11u64, 29];
     let mut out0 = [0u64; 2];
@@ -37,39 +36,48 @@ pub fn compare_examples() {
         &y2,
         &mut out2,
     );
-    let x3 = [10u64, 30];
-    let y3 = [11u64, 29];
-    let mut out3 = [0u64; 2];
+}
+
+fn other_directions() {
+    let x0 = [10u64, 30];
+    let y0 = [11u64, 29];
+    let mut out0 = [0u64; 2];
     shown_elements::compare(
         b"compare",
         Direction::Ge,
         ElementType::I32,
-        &x3,
-        &y3,
-        &mut out3,
+        &x0,
+        &y0,
+        &mut out0,
     );
-    let x4 = [10u64, 30];
-    let y4 = [11u64, 29];
-    let mut out4 = [0u64; 2];
+    let x1 = [10u64, 30];
+    let y1 = [11u64, 29];
+    let mut out1 = [0u64; 2];
     shown_elements::compare(
         b"compare",
         Direction::Gt,
         ElementType::I32,
-        &x4,
-        &y4,
-        &mut out4,
+        &x1,
+        &y1,
+        &mut out1,
     );
-    let x5 = [10u64, 30];
-    let y5 = [11u64, 29];
-    let mut out5 = [0u64; 2];
+    let x2 = [10u64, 30];
+    let y2 = [11u64, 29];
+    let mut out2 = [0u64; 2];
     shown_elements::compare(
         b"compare",
         Direction::Le,
         ElementType::I32,
-        &x5,
-        &y5,
-        &mut out5,
+        &x2,
+        &y2,
+        &mut out2,
     );
+}
+
+// compare: 000, times ten as integers; the other directions on the same operands
+pub fn compare_examples() {
+    first_directions();
+    other_directions();
 }
 
 // select: 000

@@ -47,15 +47,14 @@ pub fn sums_examples() {
     );
 }
 
-// reduce with the other bodies, from their identities (01, "Identities")
-pub fn bodies_examples() {
-    let x0 = [1u64, 2, 3, 4, 5, 6];
-    let mut out0 = [0u64; 3];
+fn product_example() {
+    let x = [1u64, 2, 3, 4, 5, 6];
+    let mut out = [0u64; 3];
     shown_shapes::reduce(
         b"reduce",
         Body::Multiply,
         ElementType::I32,
-        &x0,
+        &x,
         Shape {
             rank: 2,
             dims: [2usize, 3, 0, 0, 0, 0],
@@ -67,15 +66,18 @@ pub fn bodies_examples() {
             rank: 1,
             dims: [3usize, 0, 0, 0, 0, 0],
         },
-        &mut out0,
+        &mut out,
     );
-    let x1 = [1u64, 2, 3, 4, 5, 6];
-    let mut out1 = [0u64; 2];
+}
+
+fn maximum_example() {
+    let x = [1u64, 2, 3, 4, 5, 6];
+    let mut out = [0u64; 2];
     shown_shapes::reduce(
         b"reduce",
         Body::Maximum,
         ElementType::I8,
-        &x1,
+        &x,
         Shape {
             rank: 2,
             dims: [2usize, 3, 0, 0, 0, 0],
@@ -87,15 +89,18 @@ pub fn bodies_examples() {
             rank: 1,
             dims: [2usize, 0, 0, 0, 0, 0],
         },
-        &mut out1,
+        &mut out,
     );
-    let x2 = [1u64, 2, 3, 4, 5, 6];
-    let mut out2 = [0u64; 2];
+}
+
+fn minimum_example() {
+    let x = [1u64, 2, 3, 4, 5, 6];
+    let mut out = [0u64; 2];
     shown_shapes::reduce(
         b"reduce",
         Body::Minimum,
         ElementType::I8,
-        &x2,
+        &x,
         Shape {
             rank: 2,
             dims: [2usize, 3, 0, 0, 0, 0],
@@ -107,15 +112,18 @@ pub fn bodies_examples() {
             rank: 1,
             dims: [2usize, 0, 0, 0, 0, 0],
         },
-        &mut out2,
+        &mut out,
     );
-    let x3 = [1u64, 2, 3, 4, 5, 6];
-    let mut out3 = [0u64; 1];
+}
+
+fn and_example() {
+    let x = [1u64, 2, 3, 4, 5, 6];
+    let mut out = [0u64; 1];
     shown_shapes::reduce(
         b"reduce",
         Body::And,
         ElementType::I32,
-        &x3,
+        &x,
         Shape {
             rank: 2,
             dims: [2usize, 3, 0, 0, 0, 0],
@@ -127,15 +135,18 @@ pub fn bodies_examples() {
             rank: 0,
             dims: [0usize, 0, 0, 0, 0, 0],
         },
-        &mut out3,
+        &mut out,
     );
-    let x4 = [1u64, 2, 3, 4, 5, 6];
-    let mut out4 = [0u64; 2];
+}
+
+fn or_example() {
+    let x = [1u64, 2, 3, 4, 5, 6];
+    let mut out = [0u64; 2];
     shown_shapes::reduce(
         b"reduce",
         Body::Or,
         ElementType::I32,
-        &x4,
+        &x,
         Shape {
             rank: 2,
             dims: [2usize, 3, 0, 0, 0, 0],
@@ -147,15 +158,18 @@ pub fn bodies_examples() {
             rank: 1,
             dims: [2usize, 0, 0, 0, 0, 0],
         },
-        &mut out4,
+        &mut out,
     );
-    let x5 = [1u64, 2, 3, 4, 5, 6];
-    let mut out5 = [0u64; 3];
+}
+
+fn xor_example() {
+    let x = [1u64, 2, 3, 4, 5, 6];
+    let mut out = [0u64; 3];
     shown_shapes::reduce(
         b"reduce",
         Body::Xor,
         ElementType::I32,
-        &x5,
+        &x,
         Shape {
             rank: 2,
             dims: [2usize, 3, 0, 0, 0, 0],
@@ -167,6 +181,16 @@ pub fn bodies_examples() {
             rank: 1,
             dims: [3usize, 0, 0, 0, 0, 0],
         },
-        &mut out5,
+        &mut out,
     );
+}
+
+// reduce with the other bodies, from their identities (01, "Identities")
+pub fn bodies_examples() {
+    product_example();
+    maximum_example();
+    minimum_example();
+    and_example();
+    or_example();
+    xor_example();
 }

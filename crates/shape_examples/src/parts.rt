@@ -82,8 +82,7 @@ pub fn pad_examples() {
     );
 }
 
-// dynamic_slice: 01, ui8 255 and i8 -1; 000, starts -1 and 3
-pub fn dynamic_slice_examples() {
+fn start_examples() {
     let x = [1650u64, 1675, 1700, 1725];
     let mut last = [0u64; 1];
     shown_shapes::dynamic_slice(
@@ -117,6 +116,9 @@ pub fn dynamic_slice_examples() {
         },
         &mut first,
     );
+}
+
+fn window_example() {
     let y = [0u64, 0, 1, 1, 0, 0, 1, 1, 0, 0, 0, 0, 0, 0, 0, 0];
     let mut part = [0u64; 4];
     shown_shapes::dynamic_slice(
@@ -134,6 +136,12 @@ pub fn dynamic_slice_examples() {
         },
         &mut part,
     );
+}
+
+// dynamic_slice: 01, ui8 255 and i8 -1; 000, starts -1 and 3
+pub fn dynamic_slice_examples() {
+    start_examples();
+    window_example();
 }
 
 // concatenate: 000, [[1, 2], [3, 4], [5, 6]] and [[7, 8]] along dimension 0

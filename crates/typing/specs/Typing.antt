@@ -64,7 +64,17 @@ inTable text op = ltb (rowNamed text (placeOf op opName 0)) 34
 -- none of the reasons of refusal 7 holds of an op
 unfoldable pub typedOp : List ℕ → Parts → Row → List Value → ℕ → Bool
 typedOp text op row values n =
-    inTable text op && operandsTyped text op values n && resultsAre 1 op && attributesFit text op row && takenByTables row (operationOf text op row) && bodiesFit text op row
+    inTable text op
+    -- "a written operand type that isn't that of its definition"
+    && operandsTyped text op values n
+    -- "a wrong number .. of results (one; return: none)"
+    && resultsAre 1 op
+    -- "an attribute missing, doubled, foreign to the op or of the wrong kind; a dense value of other sizes, kind or range than its type"
+    && attributesFit text op row
+    -- "a wrong number of operands"; "an element type or rank that the op's Inputs or Outputs table in 000 doesn't take"
+    && takenByTables row (operationOf text op row)
+    -- "or of bodies"; "a reduction body faulty inside or not of the form"
+    && bodiesFit text op row
 
 -- ---- refusals 7 and 8
 
