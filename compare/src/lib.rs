@@ -10,14 +10,8 @@ use evaluator::Answer;
 type Exported = unsafe extern "C" fn(*const u8, usize, *mut u64, usize) -> u64;
 
 extern "C" {
-    fn bench_check(
-        text: *const u8,
-        text_length: usize,
-        place: *mut u64,
-        place_length: usize,
-    ) -> u64;
-    fn bench_read(text: *const u8, text_length: usize, place: *mut u64, place_length: usize)
-        -> u64;
+    fn bench_check(text: *const u8, text_length: usize, place: *mut u64, place_length: usize) -> u64;
+    fn bench_read(text: *const u8, text_length: usize, place: *mut u64, place_length: usize) -> u64;
 }
 
 /// How far a text is judged.
@@ -50,13 +44,8 @@ impl Depth {
 pub fn proved(depth: Depth, text: &[u8]) -> Answer {
     let mut place = [0u64; 2];
     // SAFETY: both slices are valid for the call, and the function has no `requires`.
-    let refusal =
-        unsafe { depth.exported()(text.as_ptr(), text.len(), place.as_mut_ptr(), place.len()) };
-    Answer {
-        refusal,
-        a: place[0],
-        b: place[1],
-    }
+    let refusal = unsafe { depth.exported()(text.as_ptr(), text.len(), place.as_mut_ptr(), place.len()) };
+    Answer { refusal, a: place[0], b: place[1] }
 }
 
 /// The answer of the second evaluator, up to the depth's last refusal.
@@ -73,8 +62,7 @@ pub fn place_kept(text: &[u8], length: usize) -> bool {
     let answer = proved(Depth::Check, text);
     let mut place = vec![u64::MAX; length];
     // SAFETY: as above.
-    let refusal =
-        unsafe { bench_check(text.as_ptr(), text.len(), place.as_mut_ptr(), place.len()) };
+    let refusal = unsafe { bench_check(text.as_ptr(), text.len(), place.as_mut_ptr(), place.len()) };
     let mut wanted = vec![u64::MAX; length];
     if length >= 2 {
         wanted[0] = answer.a;

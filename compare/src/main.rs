@@ -48,8 +48,7 @@ fn answer_stream() -> Result<bool, String> {
     let mut output = io::BufWriter::new(io::stdout().lock());
     while let Some(case) = stream::read_case(&mut input)? {
         let answer = proved(Depth::Check, &case.text);
-        writeln!(output, "{} {} {}", answer.refusal, answer.a, answer.b)
-            .map_err(|error| error.to_string())?;
+        writeln!(output, "{} {} {}", answer.refusal, answer.a, answer.b).map_err(|error| error.to_string())?;
     }
     output.flush().map_err(|error| error.to_string())?;
     Ok(true)
@@ -83,17 +82,11 @@ fn compare_prefixes(folder: &str) -> Result<bool, String> {
         }
         let text = std::fs::read(&path).map_err(|error| format!("{}: {error}", path.display()))?;
         for length in 0..=text.len() {
-            let (ours, theirs) = (
-                proved(Depth::Check, &text[..length]),
-                expected(Depth::Check, &text[..length]),
-            );
+            let (ours, theirs) = (proved(Depth::Check, &text[..length]), expected(Depth::Check, &text[..length]));
             texts += 1;
             if ours != theirs {
                 differences += 1;
-                println!(
-                    "{} cut to {length} bytes: proved {ours:?}, second evaluator {theirs:?}",
-                    path.display()
-                );
+                println!("{} cut to {length} bytes: proved {ours:?}, second evaluator {theirs:?}", path.display());
             }
         }
     }
@@ -105,10 +98,7 @@ fn compare_prefixes(folder: &str) -> Result<bool, String> {
 fn run_hostile() -> Result<bool, String> {
     let mut fine = true;
     for (name, text) in hostile::texts() {
-        for (depth, word, stack) in [
-            (Depth::Read, "read", 2 << 20),
-            (Depth::Check, "checked", 8 << 20),
-        ] {
+        for (depth, word, stack) in [(Depth::Read, "read", 2 << 20), (Depth::Check, "checked", 8 << 20)] {
             let theirs = expected(depth, &text);
             let (ours, time) = on_stack(stack, depth, text.clone())?;
             let right = ours == theirs && time < Duration::from_secs(1);
@@ -128,18 +118,11 @@ fn run_hostile() -> Result<bool, String> {
 }
 
 /// Judges a text in a thread with a stack of so many bytes.
-fn on_stack(
-    bytes: usize,
-    depth: Depth,
-    text: Vec<u8>,
-) -> Result<(evaluator::Answer, Duration), String> {
+fn on_stack(bytes: usize, depth: Depth, text: Vec<u8>) -> Result<(evaluator::Answer, Duration), String> {
     let run = move || {
         let from = Instant::now();
         (proved(depth, &text), from.elapsed())
     };
-    let thread = std::thread::Builder::new()
-        .stack_size(bytes)
-        .spawn(run)
-        .map_err(|error| error.to_string())?;
+    let thread = std::thread::Builder::new().stack_size(bytes).spawn(run).map_err(|error| error.to_string())?;
     thread.join().map_err(|_| "a thread failed".to_string())
 }
