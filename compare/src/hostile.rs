@@ -44,7 +44,10 @@ pub fn texts() -> Vec<(String, Vec<u8>)> {
         ("nested bodies".into(), nested_bodies()),
         ("one name of 65,000 bytes".into(), format!("func.func @{}() {{}}", "m".repeat(65000)).into_bytes()),
         ("one tensor type of many dimensions".into(), repeated("func.func @m(%a: tensor<", "1x", "i8>) {}")),
-        ("one number of many digits".into(), repeated(&format!("{HEADER}%c = \"stablehlo.iota\"() {{iota_dimension = "), "9", "")),
+        (
+            "one number of many digits".into(),
+            repeated(&format!("{HEADER}%c = \"stablehlo.iota\"() {{iota_dimension = "), "9", ""),
+        ),
         ("only comments".into(), repeated("", "// a comment\n", "")),
         ("one comment".into(), repeated("//", "/", "")),
         ("only white space".into(), vec![b' '; 65536]),
