@@ -6,10 +6,6 @@ use Rattle.operands.proofs.arity_of.Reads as reads
 use Rattle.operands.proofs.arity_of.Lts as lts
 use Rattle.places.proofs.count_of.Reads as count-of-reads
 
--- src/lib.rt:52:9
-count-of-requires : tie.Need-count-of-requires
-count-of-requires c κs = search needs
-
 -- src/lib.rt:49:1
 returns : tie.Need-returns
 unfolding arityOf
@@ -21,4 +17,5 @@ unfolding arityOf
 returns-2 c = search needs
 
 pub arity-of-spec : {M : Type 1} → statement M
-arity-of-spec = tie.close (tie.spec count-of-requires returns returns-2)
+arity-of-spec = tie.close (tie.spec
+    (λ c κs. search needs) returns returns-2)

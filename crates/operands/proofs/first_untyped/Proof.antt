@@ -17,9 +17,6 @@ Inv-loop text op values n arity j₀ j = (arity ≡ arityOf op) × (j ≤ arity)
 abbrev μ-loop : tie.MeasureT-loop
 μ-loop text op values n arity j₀ j = arity - j
 
-arity-of-requires : tie.Need-arity-of-requires Inv-loop μ-loop
-arity-of-requires c κs = search needs
-
 loop-holds : tie.Need-loop-holds Inv-loop μ-loop
 loop-holds c =
     let a = c .before .before .args in
@@ -35,12 +32,6 @@ returns c =
     let h = c .before .before .loop-test .taken in
     reach-here (arityOf (a .op)) (operandTyped (a .text .now) (a .op) (a .values .list) (a .n)) (c .before .before .before .loop .j) (v .2) (rw (← v .0) h) (sym (c .before .operand-typed .ensures) ∙ not-true _ (c .if1 .taken))
 
-add-j : tie.Need-add-j Inv-loop μ-loop
-add-j c = search needs
-
-loop-less : tie.Need-loop-less Inv-loop μ-loop
-loop-less c = search needs
-
 loop-again : tie.Need-loop-again Inv-loop μ-loop
 loop-again c =
     let v = c .before .before .before .loop .inv in
@@ -55,4 +46,5 @@ returns-2 c =
     v .0 ∙ reach-end (arityOf (a .op)) (operandTyped (a .text .now) (a .op) (a .values .list) (a .n)) (c .before .loop .j) (v .2) (rw (← v .0) (c .loop-test .left)) (rw (← v .0) (v .1))
 
 pub first-untyped-spec : {M : Type 1} → statement M
-first-untyped-spec = tie.close (tie.spec Inv-loop μ-loop arity-of-requires loop-holds operand-typed-requires returns add-j loop-less loop-again returns-2)
+first-untyped-spec = tie.close (tie.spec
+    Inv-loop μ-loop (λ c κs. search needs) loop-holds operand-typed-requires returns (λ c. search needs) (λ c. search needs) loop-again returns-2)

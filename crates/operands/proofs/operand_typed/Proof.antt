@@ -18,26 +18,6 @@ use Rattle.places.proofs.place_of.Reads as place-of-reads
 use Rattle.places.proofs.type_of.Reads as type-of-reads
 use Rattle.operands.proofs.value_named.Reads as value-named-reads
 
--- src/lib.rt:61:42
-place-of-requires : tie.Need-place-of-requires
-place-of-requires c κs = search needs
-
--- src/lib.rt:61:9
-value-named-requires : tie.Need-value-named-requires
-value-named-requires c κs = search needs
-
--- src/lib.rt:62:9
-type-of-requires : tie.Need-type-of-requires
-type-of-requires c κs = search needs
-
--- src/lib.rt:65:17
-mul-v : tie.Need-mul-v
-mul-v c = search needs
-
--- src/lib.rt:65:17
-array-copy-out-v : tie.Need-array-copy-out-v
-array-copy-out-v c = search needs
-
 -- src/lib.rt:67:9
 same-type-requires : tie.Need-same-type-requires
 same-type-requires c κs = rw (c .before .before .before .before .type-of .ensures) (part-sized _ _ _ _)
@@ -62,11 +42,4 @@ pub operand-typed-spec : {M : Type 1} → statement M
 operand-typed-spec =
     tie.close
     (tie.spec
-    place-of-requires
-    value-named-requires
-    type-of-requires
-    mul-v
-    array-copy-out-v
-    same-type-requires
-    returns
-    returns-2)
+    (λ c κs. search needs) (λ c κs. search needs) (λ c κs. search needs) (λ c. search needs) (λ c. search needs) same-type-requires returns returns-2)

@@ -11,30 +11,6 @@ use Rattle.places.proofs.count_of.Reads as count-of-reads
 use Rattle.operands.proofs.arity_of.Reads as arity-of-reads
 use Rattle.operands.proofs.first_untyped.Reads as first-untyped-reads
 
--- src/lib.rt:90:9
-count-of-requires : tie.Need-count-of-requires
-count-of-requires c κs = search needs
-
--- src/lib.rt:91:9
-count-of-requires-2 : tie.Need-count-of-requires-2
-count-of-requires-2 c κs = search needs
-
--- src/lib.rt:92:9
-both-requires : tie.Need-both-requires
-both-requires c κs = search needs
-
--- src/lib.rt:93:19
-first-untyped-requires : tie.Need-first-untyped-requires
-first-untyped-requires c κs = search needs
-
--- src/lib.rt:93:57
-arity-of-requires : tie.Need-arity-of-requires
-arity-of-requires c κs = search needs
-
--- src/lib.rt:93:5
-both-requires-2 : tie.Need-both-requires-2
-both-requires-2 c κs = search needs
-
 -- src/lib.rt:86:1
 returns : tie.Need-returns
 unfolding operandsTyped
@@ -47,10 +23,4 @@ pub operands-typed-spec : {M : Type 1} → statement M
 operands-typed-spec =
     tie.close
     (tie.spec
-    count-of-requires
-    count-of-requires-2
-    both-requires
-    first-untyped-requires
-    arity-of-requires
-    both-requires-2
-    returns)
+    (λ c κs. search needs) (λ c κs. search needs) (λ c κs. search needs) (λ c κs. search needs) (λ c κs. search needs) (λ c κs. search needs) returns)

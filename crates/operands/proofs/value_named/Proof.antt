@@ -24,18 +24,6 @@ abbrev μ-loop : tie.MeasureT-loop
 loop-holds : tie.Need-loop-holds Inv-loop μ-loop
 loop-holds c = let a = c .before .before .args in (omega arith, seek-none (a .text .now) (a .values .list) (a .n) (a .a))
 
--- src/lib.rt:41:17
-mul-v : tie.Need-mul-v Inv-loop μ-loop
-mul-v c = search needs
-
--- src/lib.rt:41:17
-array-copy-out-v : tie.Need-array-copy-out-v Inv-loop μ-loop
-array-copy-out-v c = search needs
-
--- src/lib.rt:42:12
-same-at-requires : tie.Need-same-at-requires Inv-loop μ-loop
-same-at-requires c κs = search needs
-
 -- src/lib.rt:43:13
 returns : tie.Need-returns Inv-loop μ-loop
 returns c =
@@ -43,14 +31,6 @@ returns c =
     let i = c .before .before .before .before .loop .i in
     seek-here (a .text .now) (a .values .list) (a .n) (a .a) i (c .before .before .before .before .loop .inv .1) (omega arith)
     (rw (name-any (a .values .list) i noValue _ refl) (sym (c .before .same-at .ensures) ∙ c .if1 .taken))
-
--- src/lib.rt:40:9
-add-i : tie.Need-add-i Inv-loop μ-loop
-add-i c = search needs
-
--- src/lib.rt:40:5
-loop-less : tie.Need-loop-less Inv-loop μ-loop
-loop-less c = search needs
 
 -- src/lib.rt:40:5
 loop-again : tie.Need-loop-again Inv-loop μ-loop
@@ -72,14 +52,5 @@ pub value-named-spec : {M : Type 1} → statement M
 value-named-spec =
     tie.close
     (tie.spec
-    Inv-loop
-    μ-loop
-    loop-holds
-    mul-v
-    array-copy-out-v
-    same-at-requires
-    returns
-    add-i
-    loop-less
-    loop-again
+    Inv-loop μ-loop loop-holds (λ c. search needs) (λ c. search needs) (λ c κs. search needs) returns (λ c. search needs) (λ c. search needs) loop-again
     returns-2)
