@@ -48,13 +48,17 @@ pub fn proved(depth: Depth, text: &[u8]) -> Answer {
     Answer { refusal, a: place[0], b: place[1] }
 }
 
-/// The answer of the second evaluator, up to the depth's last refusal.
-pub fn expected(depth: Depth, text: &[u8]) -> Answer {
-    let answer = evaluator::check(text);
+/// An answer up to the depth's last refusal.
+pub fn up_to(depth: Depth, answer: Answer) -> Answer {
     if answer.refusal <= depth.last() {
         return answer;
     }
     Answer::ACCEPTED
+}
+
+/// The answer of the second evaluator, up to the depth's last refusal.
+pub fn expected(depth: Depth, text: &[u8]) -> Answer {
+    up_to(depth, evaluator::check(text))
 }
 
 /// The memory that is lent for A and B: too short it stays as it was, and further slots never change.

@@ -2,14 +2,14 @@
 //!
 //! `compare stream`: cases in the stream form on standard input, a line `REFUSAL A B` for each, by the proved code: refusals
 //! 0 to 8, so a case whose inputs or store would be refused, or that meets a zero divisor, has 0.
-//! `compare read SEED COUNT`: generated cases, refusals 0 to 4, the proved code against the second evaluator.
-//! `compare check SEED COUNT`: likewise refusals 0 to 8.
+//! `compare check SEED COUNT`: generated cases, the proved code against the second evaluator: refusals 0 to 4 by reading
+//! alone, and refusals 0 to 8.
 //! `compare prefixes FOLDER`: every prefix of every `.mlir` file of a folder, refusals 0 to 8.
 //! `compare hostile`: texts made to exhaust a reader, both ways, with their time: reading in a thread with a stack of 2 MiB,
 //! checking in one of 8 MiB; each has to end within a second.
 //! All but `stream` end with status 1 on a difference.
 
-use compare::{expected, place_kept, proved, Depth};
+use compare::{expected, place_kept, proved, up_to, Depth};
 use evaluator::{cases, stream};
 use std::io::{self, Write};
 use std::process::ExitCode;
@@ -22,11 +22,10 @@ fn main() -> ExitCode {
     let words: Vec<&str> = arguments.iter().map(String::as_str).collect();
     let done = match words[..] {
         ["stream"] => answer_stream(),
-        ["read", seed, count] => number(seed).and_then(|seed| compare_cases(Depth::Read, seed, number(count)?)),
-        ["check", seed, count] => number(seed).and_then(|seed| compare_cases(Depth::Check, seed, number(count)?)),
+        ["check", seed, count] => number(seed).and_then(|seed| compare_cases(seed, number(count)?)),
         ["prefixes", folder] => compare_prefixes(folder),
         ["hostile"] => run_hostile(),
-        _ => Err("usage: compare stream | read SEED COUNT | check SEED COUNT | prefixes FOLDER | hostile".to_string()),
+        _ => Err("usage: compare stream | check SEED COUNT | prefixes FOLDER | hostile".to_string()),
     };
     match done {
         Ok(true) => ExitCode::SUCCESS,
@@ -54,18 +53,24 @@ fn answer_stream() -> Result<bool, String> {
     Ok(true)
 }
 
-/// Generated cases, one by one.
-fn compare_cases(depth: Depth, seed: u64, count: u64) -> Result<bool, String> {
+/// Generated cases, one by one: what reading answers, and what checking answers.
+fn compare_cases(seed: u64, count: u64) -> Result<bool, String> {
     let mut differences = 0;
     let mut refusals = [0u64; 9];
     for index in 0..count {
-        let case = cases::generate(seed, index).case;
-        let (ours, theirs) = (proved(depth, &case.text), expected(depth, &case.text));
+        let text = cases::generate(seed, index).case.text;
+        let theirs = evaluator::check(&text);
         refusals[theirs.refusal as usize] += 1;
-        let kept = index % 10 != 0 || place_kept(&case.text, (index / 10 % 5) as usize);
-        if ours != theirs || !kept {
+        for depth in [Depth::Read, Depth::Check] {
+            let (ours, wanted) = (proved(depth, &text), up_to(depth, theirs));
+            if ours != wanted {
+                differences += 1;
+                println!("case {index} of seed {seed}: proved {ours:?}, second evaluator {wanted:?}");
+            }
+        }
+        if index % 10 == 0 && !place_kept(&text, (index / 10 % 5) as usize) {
             differences += 1;
-            println!("case {index} of seed {seed}: proved {ours:?}, second evaluator {theirs:?}");
+            println!("case {index} of seed {seed}: the memory for A and B is not as it should be");
         }
     }
     println!("{count} cases of seed {seed}: {differences} differences; cases by refusal from 0 on: {refusals:?}");
