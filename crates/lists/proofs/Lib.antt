@@ -1,3 +1,5 @@
 pub mod AllLaw
+pub mod BehindLaw
 pub mod SearchLaw
 pub mod TabLaw
+pub mod TestLaw

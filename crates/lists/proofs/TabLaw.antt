@@ -2,13 +2,13 @@
 -- Assumes nothing.
 use mathlib.Core.Path.{_≡_, refl, sym, ap, _∙_, subst}
 use mathlib.Core.List.{List, [], _∷_, _++_}
-use Prim.Native.Nat.{ℕ, zero, suc, _+_, _-_, _≤_, _<_, suc-le-suc}
-use native.Mathlib.Nat.{not-suc-le-zero, le-of-suc-le-suc, zero-lt-suc}
+use Prim.Native.Nat.{ℕ, zero, suc, _+_, _*_, _-_, _≤_, _<_, suc-le-suc}
+use native.Mathlib.Nat.{not-suc-le-zero, le-of-suc-le-suc, zero-lt-suc, zero-add, zero-mul, suc-add}
 use native.Mathlib.Omega.{arith}
 use native.Mathlib.Numerals.{add-one}
 use lib.ListN.{length, getD, set, drop, length-append, length-drop, drop-of-length-le}
 use mathlib.Core.List.{append-nil, map}
-use Rattle.lists.specs.Lists.{tab}
+use Rattle.lists.specs.Lists.{tab, concat}
 
 module _ {A : Type 0} where
   pub length-tab : (n : ℕ) (f : ℕ → A) → length (tab n f) ≡ n
@@ -46,6 +46,25 @@ module _ {A : Type 0} where
   -- where all are filled nothing is left of what it was
   pub fill-whole : (n : ℕ) (f : ℕ → A) (l : List A) → length l ≤ n → tab n f ++ drop n l ≡ tab n f
   fill-whole n f l h = rw (drop-of-length-le l h) (append-nil (tab n f))
+
+  tab-add : (n m : ℕ) (f : ℕ → A) → tab (n + m) f ≡ tab n f ++ tab m (λ k. f (n + k))
+  tab-add zero m f = ap (λ (k : ℕ). tab k f) (zero-add m) ∙ tab-cong m f (λ k. f (0 + k)) (λ k b. ap f (sym (zero-add k)))
+  tab-add (suc n) m f =
+      ap (λ (k : ℕ). tab k f) (suc-add n m)
+      ∙ ap (λ (l : List A). f zero ∷ l) (tab-add n m (λ k. f (suc k)) ∙ ap (λ (l : List A). tab n (λ k. f (suc k)) ++ l) (tab-cong m (λ k. f (suc (n + k))) (λ k. f (suc n + k)) (λ k b. ap f (sym (suc-add n k)))))
+
+-- d blocks of m elements
+pub tab-blocks : {A : Type 0} (d m : ℕ) (f : ℕ → A) → tab (d * m) f ≡ concat (tab d (λ x. tab m (λ k. f (x * m + k))))
+unfolding concat
+tab-blocks zero m f = ap (λ (k : ℕ). tab k f) (zero-mul m)
+tab-blocks {A} (suc d) m f =
+    ap (λ (k : ℕ). tab k f) (let e : suc d * m ≡ m + d * m = omega arith in e)
+    ∙ tab-add m (d * m) f
+    ∙ ap (λ (l : List A). tab m f ++ l) (tab-blocks d m (λ k. f (m + k)))
+    ∙ ap (λ (l : List A). l ++ concat (tab d (λ x. tab m (λ k. f (m + (x * m + k)))))) (tab-cong m f (λ k. f (zero * m + k)) (λ k b. ap f (let e : k ≡ zero * m + k = omega arith in e)))
+    ∙ ap (λ (l : List (List A)). tab m (λ k. f (zero * m + k)) ++ concat l)
+    (tab-cong d (λ x. tab m (λ k. f (m + (x * m + k)))) (λ x. tab m (λ k. f (suc x * m + k)))
+    (λ x h. tab-cong m (λ k. f (m + (x * m + k))) (λ k. f (suc x * m + k)) (λ k b. ap f (let e : m + (x * m + k) ≡ suc x * m + k = omega arith in e))))
 
 pub map-tab : {A B : Type 0} (g : A → B) (n : ℕ) (f : ℕ → A) → map g (tab n f) ≡ tab n (λ i. g (f i))
 map-tab g zero f = refl

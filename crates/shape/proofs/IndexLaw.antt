@@ -8,7 +8,8 @@ use native.Mathlib.Omega.{arith}
 use lib.ListN.{length, drop, replicate, length-drop}
 use lib.Seq.{getD-drop}
 use Rattle.lists.specs.Lists.{tab, concat}
-use Rattle.lists.proofs.TabLaw.{length-tab, tab-cong, map-tab}
+use Rattle.lists.proofs.TabLaw.{length-tab, tab-cong, tab-blocks, map-tab}
+use Rattle.lists.proofs.BehindLaw.{getD-filled}
 use Rattle.shape.specs.Index.{at, size, volume, unravel, ravel, Within, IndexOf, indices, tabulate, inSix}
 
 -- ---- position to index and back
@@ -94,25 +95,6 @@ dim-le-volume (x ∷ s) (suc d) h =
 
 -- ---- the order
 
-tab-add : {A : Type 0} (n m : ℕ) (f : ℕ → A) → tab (n + m) f ≡ tab n f ++ tab m (λ k. f (n + k))
-tab-add {A} zero m f = ap (λ (k : ℕ). tab k f) (zero-add m) ∙ tab-cong m f (λ k. f (0 + k)) (λ k b. ap f (sym (zero-add k)))
-tab-add {A} (suc n) m f =
-    ap (λ (k : ℕ). tab k f) (suc-add n m)
-    ∙ ap (λ (l : List A). f zero ∷ l) (tab-add n m (λ k. f (suc k)) ∙ ap (λ (l : List A). tab n (λ k. f (suc k)) ++ l) (tab-cong m (λ k. f (suc (n + k))) (λ k. f (suc n + k)) (λ k b. ap f (sym (suc-add n k)))))
-
--- blocks of m
-tab-blocks : (d m : ℕ) (f : ℕ → List ℕ) → tab (d * m) f ≡ concat (tab d (λ x. tab m (λ k. f (x * m + k))))
-unfolding concat
-tab-blocks zero m f = ap (λ (k : ℕ). tab k f) (zero-mul m)
-tab-blocks (suc d) m f =
-    ap (λ (k : ℕ). tab k f) (let e : suc d * m ≡ m + d * m = omega arith in e)
-    ∙ tab-add m (d * m) f
-    ∙ ap (λ (l : List (List ℕ)). tab m f ++ l) (tab-blocks d m (λ k. f (m + k)))
-    ∙ ap (λ (l : List (List ℕ)). l ++ concat (tab d (λ x. tab m (λ k. f (m + (x * m + k)))))) (tab-cong m f (λ k. f (zero * m + k)) (λ k b. ap f (let e : k ≡ zero * m + k = omega arith in e)))
-    ∙ ap (λ (l : List (List (List ℕ))). tab m (λ k. f (zero * m + k)) ++ concat l)
-    (tab-cong d (λ x. tab m (λ k. f (m + (x * m + k)))) (λ x. tab m (λ k. f (suc x * m + k)))
-    (λ x h. tab-cong m (λ k. f (m + (x * m + k))) (λ k. f (suc x * m + k)) (λ k b. ap f (let e : m + (x * m + k) ≡ suc x * m + k = omega arith in e))))
-
 -- the indices at the canonical positions are all the indices in order
 pub indices-tab : (s : List ℕ) → tab (size s) (unravel s) ≡ indices s
 unfolding indices
@@ -141,20 +123,5 @@ tabulate-cong s f g h = tab-cong (size s) (λ k. f (unravel s k)) (λ k. g (unra
 -- ---- an index of six numbers
 
 -- the index as a function does not see zeros behind it
-at-zeros : (u : List ℕ) (n : ℕ) (j : ℕ) → at (u ++ replicate n 0) j ≡ at u j
-at-zeros [] zero j = refl
-at-zeros [] (suc n) zero = refl
-at-zeros [] (suc n) (suc j) = at-zeros [] n j
-at-zeros (x ∷ u) n zero = refl
-at-zeros (x ∷ u) n (suc j) = at-zeros u n j
-
-drop-replicate : (n m : ℕ) → drop {A = ℕ} n (replicate m 0) ≡ replicate (m - n) 0
-drop-replicate zero m = ap (λ (k : ℕ). replicate k 0) (let e : m ≡ m - 0 = omega arith in e)
-drop-replicate (suc n) zero = ap (λ (k : ℕ). replicate k 0) (let e : 0 ≡ 0 - suc n = omega arith in e)
-drop-replicate (suc n) (suc m) = drop-replicate n m ∙ ap (λ (k : ℕ). replicate k 0) (let e : m - n ≡ suc m - suc n = omega arith in e)
-
 pub at-six : (u : List ℕ) → at (inSix u) ≡ at u
-at-six u = λ t j. (ap (λ (z : List ℕ). at (u ++ z) j) (drop-replicate (length u) 6) ∙ at-zeros u (6 - length u) j) t
-
-pub within-six : (s u : List ℕ) → Within s u → Within s (inSix u)
-within-six s u w d h = subst (λ (f : ℕ → ℕ). f d < at s d) (sym (at-six u)) (w d h)
+at-six u = λ t j. getD-filled 0 u 6 j t
