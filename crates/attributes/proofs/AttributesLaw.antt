@@ -1,13 +1,14 @@
 -- Attributes: turns of the search for one, bounds on the values that are read, and what attributes that fit their row give.
 -- Assumes nothing.
 use mathlib.Core.Path.{_≡_, refl, sym, _∙_}
-use mathlib.Core.Bool.{Bool, true, false, _&&_, false≢true}
+use mathlib.Core.Bool.{Bool, true, false, _&&_}
 use mathlib.Core.List.{List}
 use Prim.Native.Nat.{ℕ, zero, suc, _+_, _≤_, _<_}
 use native.Mathlib.Omega.{arith}
 use lib.Dec.{ltb, eqb}
 use lib.ListN.{length, set, replicate, length-set}
 use borrow.Author.Tests.{ltb-true}
+use Rattle.lists.proofs.TestLaw.{both-true}
 use Rattle.lists.specs.Lists.{pick, tab}
 use Rattle.lists.proofs.TabLaw.{length-tab, getD-tab}
 use Rattle.lists.proofs.SearchLaw.{Passed, passed-none, passed-next, passed-here, passed-end}
@@ -147,10 +148,6 @@ dense-type-six text op k = dense-within text op k .1
 pub everywhere-is : (n : ℕ) (t : ℕ → Bool) (u m : ℕ) → u ≡ firstFailing n t → m ≡ n → everywhere n t ≡ eqb u m
 unfolding everywhere
 everywhere-is n t u m p q = rw (p, q)
-
-both-true : (a b : Bool) → a && b ≡ true → (a ≡ true) × (b ≡ true)
-both-true true b e = (refl, e)
-both-true false b e = absurd (false≢true e)
 
 module _ (text : List ℕ) (op : Parts) (row : Row) (fit : attributesFit text op row ≡ true) where
   abbrev each : Bool

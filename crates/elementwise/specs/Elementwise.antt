@@ -102,7 +102,11 @@ abbrev pub stepOf : Out Tensor ℕ → Step
 stepOf (gives v) = Filled
 stepOf (stops k) = Zero k
 
--- what a division answers, and what it leaves where old stood: the results, or those before the first zero divisor and the old rest
+-- what a division leaves where old stood: the results, or those before the first zero divisor and the old rest
+abbrev pub leftBy : Division → ElementType → Tensor → Tensor → List ℕ → List ℕ
+leftBy op t x y old = onOut (divided op t (length old) x y) (λ v. v) (λ k. tab k (divisionAt op t x y) ++ drop k old)
+
+-- what a division answers, and what it leaves where old stood
 pub record Divides (op : Division) (t : ElementType) (x y : Tensor) (r : Step) (old new : List ℕ) : Type 0 where
   pub answers : r ≡ stepOf (divided op t (length old) x y)
-  pub leaves : new ≡ onOut (divided op t (length old) x y) (λ v. v) (λ k. tab k (divisionAt op t x y) ++ drop k old)
+  pub leaves : new ≡ leftBy op t x y old

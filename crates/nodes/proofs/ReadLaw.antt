@@ -1,13 +1,14 @@
 -- What is read of any op is within the sizes of 01; and what attributes that fit their row give of the attribute that must stand first.
 -- Assumes nothing.
 use mathlib.Core.Path.{_≡_, refl}
-use mathlib.Core.Bool.{Bool, true, false, _&&_, false≢true}
+use mathlib.Core.Bool.{Bool, true, false, _&&_}
 use mathlib.Core.List.{List, [], _∷_}
 use Prim.Native.Nat.{ℕ, suc, _<_}
 use native.Mathlib.Nat.{not-suc-le-zero, le-of-suc-le-suc}
 use lib.Dec.{ltb, eqb}
 use lib.ListN.{length, getD}
 use borrow.Author.Tests.{ltb-true, eqb-true, eq-eqb}
+use Rattle.lists.proofs.TestLaw.{both-true}
 use Rattle.lists.specs.Lists.{pick, tab, firstWhere, allBelow}
 use Rattle.lists.proofs.SearchLaw.{all-at}
 use Rattle.lists.proofs.TabLaw.{length-tab, getD-tab}
@@ -79,10 +80,6 @@ operation-shaped text op row =
 -- attribute k must stand first in a row of these constraints
 abbrev asks : Rule → ℕ → Row → Bool
 asks r k row = pick (eqb (ruleCode (row .rule)) (ruleCode r)) (ltb 0 (row .needed) && eqb (row .a) k) true
-
-pub both-true : (a b : Bool) → a && b ≡ true → (a ≡ true) × (b ≡ true)
-both-true true b e = (refl, e)
-both-true false b e = absurd (false≢true e)
 
 -- so in each of the table's rows
 first-asked : (r : Rule) (k : ℕ) → allBelow 34 (λ i. asks r k (rowAt i)) ≡ true → (i : ℕ) → i < 34 → rowAt i .rule ≡ r → (0 < rowAt i .needed) × (rowAt i .a ≡ k)

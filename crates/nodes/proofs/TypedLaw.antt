@@ -8,6 +8,7 @@ use native.Mathlib.Omega.{arith}
 use lib.Dec.{ltb, eqb}
 use lib.ListN.{getD}
 use borrow.Author.Tests.{ltb-true, lt-ltb}
+use Rattle.lists.proofs.TestLaw.{both-true}
 use Rattle.shape.specs.Dims.{dimsOf}
 use Rattle.ops.specs.declared.Kind.{Kind}
 use Rattle.ops.specs.declared.Kind.the-variants.{Constant, Iota, Elementwise, Pairwise, Quotient, Compare, Convert, Select, Clamp, Moved, Pad, Concatenate, DynamicSlice, Reduce}
@@ -35,7 +36,7 @@ use Rattle.facts.proofs.AcceptedLaw.{row-for, accepted}
 use Rattle.facts.proofs.BridgeLaw.{alike-dims}
 use Rattle.facts.proofs.NodeLaw.{node-granted}
 use Rattle.nodes.specs.Nodes.{directionAt, reducerAt, kindOf, elementsOf}
-use Rattle.nodes.proofs.ReadLaw.{operation-shaped, both-true, iota-number, concatenate-number, constant-elements}
+use Rattle.nodes.proofs.ReadLaw.{operation-shaped, iota-number, concatenate-number, constant-elements}
 
 -- two types of one meaning, by the lists of their dimensions
 pub same-node-type : (x y : TensorType) → ShapeRead (x .shape) → ShapeRead (y .shape) → sameType x y ≡ true → nodeType x ≡ nodeType y

@@ -29,7 +29,7 @@ use Rattle.opwise.specs.Opwise.{byName, byOp, typingOf, opRefusal, opsFrom}
 use Rattle.verify.specs.Verify.{withinSizes, opsRefusal, programRefusal}
 use Rattle.offsets.specs.Offsets.{neededOf}
 use Rattle.verify.proofs.VerifyLaw.{sizes-within}
-use Rattle.nodes.proofs.ReadLaw.{both-true}
+use Rattle.lists.proofs.TestLaw.{both-true}
 use Rattle.nodes.proofs.NodesLaw.{OpStands, OpsStand}
 
 -- one answer and, where it is 0, the next: both are 0

@@ -1,10 +1,11 @@
 -- From a verdict without a broken constraint to what the op grants; and from one by the tables to what they take.
 -- Assumes nothing.
 use mathlib.Core.Path.{_≡_, refl}
-use mathlib.Core.Bool.{Bool, true, false, _&&_, false≢true}
+use mathlib.Core.Bool.{Bool, true, false, _&&_}
 use Prim.Native.Nat.{ℕ, _≤_, _<_}
 use lib.Dec.{leb}
 use borrow.Author.Tests.{leb-true}
+use Rattle.lists.proofs.TestLaw.{both-true}
 use Rattle.dimrules.specs.Count.{everywhere}
 use Rattle.dimrules.proofs.CountLaw.{holds-at}
 use Rattle.optable.specs.Takes.{resultTaken}
@@ -35,10 +36,6 @@ granted Reverse o e = reverse-law _ _ _ e
 granted Select o e = select-law _ _ _ _ e
 granted Slice o e = slice-law _ _ _ _ _ e
 granted Transpose o e = transpose-law _ _ _ e
-
-both-true : (a b : Bool) → a && b ≡ true → (a ≡ true) × (b ≡ true)
-both-true true b e = (refl, e)
-both-true false b e = absurd (false≢true e)
 
 pub record Taken (row : Row) (o : Operation) : Type 0 where
   pub least : row .least ≤ o .arity

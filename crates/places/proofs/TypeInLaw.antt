@@ -1,13 +1,14 @@
 -- Every type that is read is within sizes 1 and 2 of 01, and has six dimensions in its array.
 -- Assumes nothing.
 use mathlib.Core.Path.{_≡_, refl}
-use mathlib.Core.Bool.{Bool, true, false, _&&_, false≢true}
+use mathlib.Core.Bool.{Bool, true, false, _&&_}
 use mathlib.Core.List.{List}
 use Prim.Native.Nat.{ℕ, _+_}
 use lib.ListN.{length, drop, replicate}
 use lib.Dec.{eqb}
 use native.Mathlib.Omega.{arith}
 use borrow.Author.Tests.{eqb-true}
+use Rattle.lists.proofs.TestLaw.{both-true}
 use Rattle.lists.specs.Lists.{pick}
 use Rattle.shape.specs.Dims.{Sized}
 use Rattle.types.specs.declared.tensors.TypeRead.{TypeRead}
@@ -19,14 +20,11 @@ use Rattle.scan.specs.TensorText.{typeClose}
 use Rattle.element.specs.declared.ElementType.{ElementType}
 use Rattle.types.proofs.TypeLaw.{type-sized}
 use Rattle.dimrules.specs.declared.TensorType.{TensorType}
-use Rattle.places.specs.Places.{blankType, typeSaid, typeIn}
+use Rattle.program.specs.declared.Parts.{Parts}
+use Rattle.places.specs.Places.{blankType, typeSaid, typeIn, placeOf, typeOfPart}
 
-blank-sized : Sized (blankType .shape)
+pub blank-sized : Sized (blankType .shape)
 blank-sized = record { rank = omega arith; volume = omega arith }
-
-both-true : (a b : Bool) → a && b ≡ true → (a ≡ true) × (b ≡ true)
-both-true true b e = (refl, e)
-both-true false b e = absurd (false≢true e)
 
 said-sized : (t : TypeRead) (b : Bool) → (b ≡ true → Sized (t .shape)) → Sized (pick b (record { element = t .element; shape = t .shape }) blankType .shape)
 said-sized t true h = h refl
@@ -74,3 +72,7 @@ said-six t false h = refl
 pub type-in-six : (text : List ℕ) (at : ℕ) → length (typeIn text at .shape .dims) ≡ 6
 unfolding typeIn
 type-in-six text at = said-six (typeOf text at) (typeOf text at .known && eqb (typeOf text at .passed) 0) (read-six text at)
+
+pub part-sized : (text : List ℕ) (p : Parts) (k j : ℕ) → Sized (typeOfPart text p k j .shape)
+unfolding typeOfPart
+part-sized text p k j = type-in-sized text (placeOf p k j)

@@ -11,6 +11,7 @@ use lib.Dec.{ltb, leb, eqb}
 use lib.IntN.{ℤ, pos, negsuc, _+ℤ_, _*ℤ_}
 use lib.Signed.{leZ, ltZ}
 use borrow.Author.Tests.{leb-true, ltb-true, eqb-true}
+use Rattle.lists.proofs.TestLaw.{both-true}
 use Rattle.lists.specs.Lists.{pick}
 use Rattle.element.specs.declared.ElementType.{ElementType}
 use Rattle.element.specs.declared.ElementType.the-variants.{I1, I8, I16, I32, I64, U8, U16, U32, U64}
@@ -33,10 +34,6 @@ use Rattle.rules.specs.Broken.{firstBroken}
 use Rattle.rules.specs.Constraints.{sidesOf, sameTypesConstraints, absConstraints, constantConstraints, convertConstraints, iotaConstraints, reshapeConstraints, compareConstraints, selectConstraints, clampConstraints, reverseConstraints, transposeConstraints, broadcastConstraints, sliceConstraints, padConstraints, concatenateConstraints, dynamicSliceConstraints, reduceConstraints}
 use Rattle.rules.specs.Facts.{AlikeShapes, AlikeTypes, DimensionsBelow, SameTypesHolds, CompareHolds, SelectHolds, ClampHolds, ReshapeHolds, ReverseHolds, TransposeHolds, BroadcastHolds, SliceHolds, PadHolds, ConcatenateHolds, DynamicSliceHolds, ReduceHolds}
 use Rattle.rules.proofs.BrokenLaw.{holds}
-
-both-true : (a b : Bool) → a && b ≡ true → (a ≡ true) × (b ≡ true)
-both-true true b e = (refl, e)
-both-true false b e = absurd (false≢true e)
 
 or-true : (a b : Bool) → a || b ≡ true → (a ≡ true) ⊎ (b ≡ true)
 or-true true b e = inl refl

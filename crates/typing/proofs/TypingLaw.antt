@@ -17,18 +17,15 @@ use Rattle.dimrules.specs.Types.{typeAt, noType}
 use Rattle.dimrules.specs.declared.TensorType.{TensorType}
 use Rattle.opcheck.specs.Judged.{ReadSizes}
 use Rattle.places.specs.Places.{operandName, operandType, resultType, bodyOpen, countOf, placeOf, blankType, typeOfPart}
-use Rattle.places.proofs.TypeInLaw.{type-in-sized, type-in-six}
+use Rattle.places.proofs.TypeInLaw.{type-in-sized, type-in-six, blank-sized, part-sized}
 use Rattle.attributes.proofs.AttributesLaw.{numbers-few, dense-type-sized}
 use Rattle.bodies.specs.Bodies.{argumentType}
-use Rattle.bodies.proofs.BodiesLaw.{part-sized, argument-sized}
+use Rattle.bodies.proofs.BodiesLaw.{argument-sized}
 use Rattle.operands.specs.Operands.{arityOf}
 use Rattle.operands.proofs.OperandsLaw.{arity-few}
 use Rattle.typing.specs.Typing.{typesOf, bodyType, operationOf}
 
 -- ---- sizes
-
-blank-sized : Sized (blankType .shape)
-blank-sized = record { rank = omega arith; volume = omega arith }
 
 pick-sized : (b : Bool) (x y : TensorType) → Sized (x .shape) → Sized (y .shape) → Sized (pick b x y .shape)
 pick-sized true x y p q = p

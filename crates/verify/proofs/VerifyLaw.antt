@@ -2,13 +2,14 @@
 -- Assumes nothing.
 use Prim.Native.Nat.{ℕ, _<_, _≤_}
 use mathlib.Core.Path.{_≡_, refl}
-use mathlib.Core.Bool.{Bool, true, false, _&&_, false≢true}
+use mathlib.Core.Bool.{Bool, true, false, _&&_}
 use mathlib.Core.List.{List}
 use native.Mathlib.Omega.{arith}
 use native.Mathlib.Decide.{decLt}
 use lib.ListN.{length}
 use lib.Dec.{ltb, leb}
 use borrow.Author.Tests.{ltb-true, leb-true}
+use Rattle.lists.proofs.TestLaw.{both-true}
 use Rattle.judge.specs.Judge.{textRefusal}
 use Rattle.judge.proofs.Theorems.{too-long}
 use Rattle.program.specs.declared.Program.{Program}
@@ -23,10 +24,6 @@ few-bytes text e = by-length (decLt 65536 (length text))
     by-length : Dec (65536 < length text) → length text ≤ 65536
     by-length (yes h) = let z : _≡_ {A = ℕ} 1 0 = rw (too-long text h) at e in absurd (omega arith)
     by-length (no h) = omega arith
-
-both-true : (a b : Bool) → a && b ≡ true → (a ≡ true) × (b ≡ true)
-both-true true b e = (refl, e)
-both-true false b e = absurd (false≢true e)
 
 pub counted-within : (p : Program) → counted p ≡ true → (0 < p .count) × (p .count ≤ 257)
 unfolding counted

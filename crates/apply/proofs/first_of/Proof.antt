@@ -8,5 +8,4 @@ returns c =
     getD-none (c .before .args .y .now) (c .if1 .taken)
 
 pub first-of-spec : {M : Type 1} → statement M
-first-of-spec = tie.close (tie.spec
-    (λ c. search needs) returns (λ c. search needs))
+first-of-spec = tie.close (tie.spec (λ c. search needs) returns (λ c. search needs))

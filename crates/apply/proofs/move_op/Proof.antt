@@ -1,11 +1,7 @@
 use Rattle.apply.proofs.ApplyLaw.{move-ready, move-is, broadcast-is, transpose-is, slice-is}
 use borrow.Author.Needs.{needs}
-use borrow.Author.Needs.{needs}
 use Rattle.apply.proofs.move_op.Statement.{statement}
 use Rattle.apply.proofs.move_op.Tie as tie
-
-enum-told : tie.Need-enum-told
-enum-told c = search needs
 
 reshape-requires : tie.Need-reshape-requires
 reshape-requires c κs =
@@ -13,17 +9,11 @@ reshape-requires c κs =
     let h = move-ready (args .k) (args .x .now) (args .out .now) (c .before .enum-told .given .1) (c .before .before .before .before .before .before .before .before .before .before .pre) in
     h
 
-enum-told-2 : tie.Need-enum-told-2
-enum-told-2 c = search needs
-
 broadcast-in-dim-requires : tie.Need-broadcast-in-dim-requires
 broadcast-in-dim-requires c κs =
     let args = c .before .before .before .before .before .before .before .before .before .before .args in
     let h = move-ready (args .k) (args .x .now) (args .out .now) (c .before .enum-told2 .given .1) (c .before .before .before .before .before .before .before .before .before .before .pre) in
     h .0
-
-enum-told-3 : tie.Need-enum-told-3
-enum-told-3 c = search needs
 
 transpose-requires : tie.Need-transpose-requires
 transpose-requires c κs =
@@ -31,17 +21,11 @@ transpose-requires c κs =
     let h = move-ready (args .k) (args .x .now) (args .out .now) (c .before .enum-told3 .given .1) (c .before .before .before .before .before .before .before .before .before .before .pre) in
     h .0
 
-enum-told-4 : tie.Need-enum-told-4
-enum-told-4 c = search needs
-
 slice-requires : tie.Need-slice-requires
 slice-requires c κs =
     let args = c .before .before .before .before .before .before .before .before .before .before .args in
     let h = move-ready (args .k) (args .x .now) (args .out .now) (c .before .enum-told4 .given .1) (c .before .before .before .before .before .before .before .before .before .before .pre) in
     (h .0, h .2)
-
-enum-told-5 : tie.Need-enum-told-5
-enum-told-5 c = search needs
 
 reverse-requires : tie.Need-reverse-requires
 reverse-requires c κs =
@@ -49,17 +33,11 @@ reverse-requires c κs =
     let h = move-ready (args .k) (args .x .now) (args .out .now) (c .before .enum-told5 .given .1) (c .before .before .before .before .before .before .before .before .before .before .pre) in
     h
 
-same-length : tie.Need-same-length
-same-length c = search needs
-
 returns : tie.Need-returns
 returns c =
     let args = c .before .before .before .before .before .before .before .before .before .before .before .before .before .args in
     let k = args .k in
     move-is k (args .x .now) (c .before .before .before .before .enum-told .given .1) (c .before .before .reshape .ensures)
-
-same-length-2 : tie.Need-same-length-2
-same-length-2 c = search needs
 
 returns-2 : tie.Need-returns-2
 returns-2 c =
@@ -68,9 +46,6 @@ returns-2 c =
     let h = move-ready k (args .x .now) (args .out .now) (c .before .before .before .before .enum-told2 .given .1) (c .before .before .before .before .before .before .before .before .before .before .before .before .before .pre) in
     move-is k (args .x .now) (c .before .before .before .before .enum-told2 .given .1) (broadcast-is k (args .x .now) _ (h .1) (c .before .before .broadcast-in-dim .ensures))
 
-same-length-3 : tie.Need-same-length-3
-same-length-3 c = search needs
-
 returns-3 : tie.Need-returns-3
 returns-3 c =
     let args = c .before .before .before .before .before .before .before .before .before .before .before .before .before .args in
@@ -78,18 +53,12 @@ returns-3 c =
     let h = move-ready k (args .x .now) (args .out .now) (c .before .before .before .before .enum-told3 .given .1) (c .before .before .before .before .before .before .before .before .before .before .before .before .before .pre) in
     move-is k (args .x .now) (c .before .before .before .before .enum-told3 .given .1) (transpose-is k (args .x .now) _ (h .1) (c .before .before .transpose .ensures))
 
-same-length-4 : tie.Need-same-length-4
-same-length-4 c = search needs
-
 returns-4 : tie.Need-returns-4
 returns-4 c =
     let args = c .before .before .before .before .before .before .before .before .before .before .before .before .before .args in
     let k = args .k in
     let h = move-ready k (args .x .now) (args .out .now) (c .before .before .before .before .enum-told4 .given .1) (c .before .before .before .before .before .before .before .before .before .before .before .before .before .pre) in
     move-is k (args .x .now) (c .before .before .before .before .enum-told4 .given .1) (slice-is k (args .x .now) _ (h .1) (c .before .before .slice .ensures))
-
-same-length-5 : tie.Need-same-length-5
-same-length-5 c = search needs
 
 returns-5 : tie.Need-returns-5
 returns-5 c =
@@ -99,25 +68,6 @@ returns-5 c =
 
 pub move-op-spec : {M : Type 1} → statement M
 move-op-spec =
-    tie.close
-    (tie.spec
-    enum-told
-    reshape-requires
-    enum-told-2
-    broadcast-in-dim-requires
-    enum-told-3
-    transpose-requires
-    enum-told-4
-    slice-requires
-    enum-told-5
-    reverse-requires
-    same-length
-    returns
-    same-length-2
-    returns-2
-    same-length-3
-    returns-3
-    same-length-4
-    returns-4
-    same-length-5
-    returns-5)
+    tie.close (tie.spec (λ c. search needs) reshape-requires (λ c. search needs) broadcast-in-dim-requires (λ c. search needs) transpose-requires
+    (λ c. search needs) slice-requires (λ c. search needs) reverse-requires (λ c. search needs) returns (λ c. search needs) returns-2
+    (λ c. search needs) returns-3 (λ c. search needs) returns-4 (λ c. search needs) returns-5)

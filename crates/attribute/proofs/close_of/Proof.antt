@@ -18,15 +18,6 @@ abbrev μ-loop : tie.MeasureT-loop
 loop-holds : tie.Need-loop-holds Inv-loop μ-loop
 loop-holds c = refl
 
-token-requires : tie.Need-token-requires Inv-loop μ-loop
-token-requires c κs = search needs
-
-after-requires : tie.Need-after-requires Inv-loop μ-loop
-after-requires c κs = search needs
-
-ends-literal-requires : tie.Need-ends-literal-requires Inv-loop μ-loop
-ends-literal-requires c κs = search needs
-
 returns : tie.Need-returns Inv-loop μ-loop
 returns c =
     let h = c .before .before .before .before .before in
@@ -36,12 +27,6 @@ returns c =
     let t = c .before .before .before .token in
     rw (c .before .before .after .ensures)
     (sym (close-stop (l .left) text (l .c) (t .result) (omega arith) (t .ensures) (sym (c .before .ends-literal .ensures) ∙ c .if1 .taken)) ∙ l .inv)
-
-sub-left : tie.Need-sub-left Inv-loop μ-loop
-sub-left c = search needs
-
-loop-less : tie.Need-loop-less Inv-loop μ-loop
-loop-less c = search needs
 
 loop-again : tie.Need-loop-again Inv-loop μ-loop
 loop-again c =
@@ -61,4 +46,6 @@ returns-2 c =
     sym (close-none (l .left) text (l .c .at) (omega arith)) ∙ l .inv
 
 pub close-of-spec : {M : Type 1} → statement M
-close-of-spec = tie.close (tie.spec Inv-loop μ-loop loop-holds token-requires after-requires ends-literal-requires returns sub-left loop-less loop-again returns-2)
+close-of-spec =
+    tie.close (tie.spec Inv-loop μ-loop loop-holds (λ c κs. search needs) (λ c κs. search needs) (λ c κs. search needs) returns (λ c. search needs)
+    (λ c. search needs) loop-again returns-2)

@@ -6,25 +6,13 @@ use Rattle.attribute.specs.Attribute.{formAt}
 use Rattle.attribute.proofs.form_at.Statement.{statement}
 use Rattle.attribute.proofs.form_at.Tie as tie
 
-token-after-requires : tie.Need-token-after-requires
-token-after-requires c κs = search needs
-
 returns : tie.Need-returns
 unfolding formAt
 returns c = simp (eq-eqb _ _ (c .if1 .taken), ← c .before .before .token-after .ensures)
 
-choice-at-requires : tie.Need-choice-at-requires
-choice-at-requires c κs = search needs
-
-choice-form-requires : tie.Need-choice-form-requires
-choice-form-requires c κs = search needs
-
 returns-2 : tie.Need-returns-2
 unfolding formAt
 returns-2 c = simp (← c .choice-form .ensures, ← c .before .choice-at .ensures, eq-eqb _ _ (c .before .before .if2 .taken), ne-eqb _ _ (c .before .before .before .before .if1 .left), ← c .before .before .before .before .before .before .token-after .ensures)
-
-word-form-requires : tie.Need-word-form-requires
-word-form-requires c κs = search needs
 
 returns-3 : tie.Need-returns-3
 unfolding formAt
@@ -35,4 +23,6 @@ unfolding formAt
 returns-4 c = simp (ne-eqb _ _ (c .if3 .left), ne-eqb _ _ (c .before .before .if2 .left), ne-eqb _ _ (c .before .before .before .before .if1 .left), ← c .before .before .before .before .before .before .token-after .ensures)
 
 pub form-at-spec : {M : Type 1} → statement M
-form-at-spec = tie.close (tie.spec token-after-requires returns choice-at-requires choice-form-requires returns-2 word-form-requires returns-3 returns-4)
+form-at-spec =
+    tie.close (tie.spec (λ c κs. search needs) returns (λ c κs. search needs) (λ c κs. search needs) returns-2 (λ c κs. search needs) returns-3
+    returns-4)

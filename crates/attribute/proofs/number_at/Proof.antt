@@ -5,15 +5,9 @@ use Rattle.attribute.specs.Attribute.{numberAt}
 use Rattle.attribute.proofs.number_at.Statement.{statement}
 use Rattle.attribute.proofs.number_at.Tie as tie
 
-token-after-requires : tie.Need-token-after-requires
-token-after-requires c κs = search needs
-
-pattern-at-requires : tie.Need-pattern-at-requires
-pattern-at-requires c κs = search needs
-
 returns : tie.Need-returns
 unfolding numberAt
 returns c = simp (← c .pattern-at .ensures, ← c .before .token-after .ensures)
 
 pub number-at-spec : {M : Type 1} → statement M
-number-at-spec = tie.close (tie.spec token-after-requires pattern-at-requires returns)
+number-at-spec = tie.close (tie.spec (λ c κs. search needs) (λ c κs. search needs) returns)

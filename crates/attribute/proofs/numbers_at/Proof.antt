@@ -6,18 +6,9 @@ use Rattle.attribute.specs.Attribute.{numbersAt}
 use Rattle.attribute.proofs.numbers_at.Statement.{statement}
 use Rattle.attribute.proofs.numbers_at.Tie as tie
 
-token-after-requires : tie.Need-token-after-requires
-token-after-requires c κs = search needs
-
-after-requires : tie.Need-after-requires
-after-requires c κs = search needs
-
-numbers-from-requires : tie.Need-numbers-from-requires
-numbers-from-requires c κs = search needs
-
 returns : tie.Need-returns
 unfolding numbersAt afterToken
 returns c = simp (c .numbers-from .ensures, c .before .after .ensures, ← c .before .before .token-after .ensures)
 
 pub numbers-at-spec : {M : Type 1} → statement M
-numbers-at-spec = tie.close (tie.spec token-after-requires after-requires numbers-from-requires returns)
+numbers-at-spec = tie.close (tie.spec (λ c κs. search needs) (λ c κs. search needs) (λ c κs. search needs) returns)

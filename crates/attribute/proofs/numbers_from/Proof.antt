@@ -15,38 +15,8 @@ Inv-loop text ns₀ c₀ left₀ ns c left = numbersFrom left ns text (c .at) �
 abbrev μ-loop : tie.MeasureT-loop
 μ-loop text ns₀ c₀ left₀ ns c left = left
 
-no-numbers-requires : tie.Need-no-numbers-requires Inv-loop μ-loop
-no-numbers-requires c κs = search needs
-
 loop-holds : tie.Need-loop-holds Inv-loop μ-loop
 loop-holds c = rw (c .no-numbers .ensures)
-
-token-requires : tie.Need-token-requires Inv-loop μ-loop
-token-requires c κs = search needs
-
-goes-on-requires : tie.Need-goes-on-requires Inv-loop μ-loop
-goes-on-requires c κs = search needs
-
-after-requires : tie.Need-after-requires Inv-loop μ-loop
-after-requires c κs = search needs
-
-token-requires-2 : tie.Need-token-requires-2 Inv-loop μ-loop
-token-requires-2 c κs = search needs
-
-pattern-at-requires : tie.Need-pattern-at-requires Inv-loop μ-loop
-pattern-at-requires c κs = search needs
-
-with-number-requires : tie.Need-with-number-requires Inv-loop μ-loop
-with-number-requires c κs = search needs
-
-after-requires-2 : tie.Need-after-requires-2 Inv-loop μ-loop
-after-requires-2 c κs = search needs
-
-sub-left : tie.Need-sub-left Inv-loop μ-loop
-sub-left c = search needs
-
-loop-less : tie.Need-loop-less Inv-loop μ-loop
-loop-less c = search needs
 
 loop-again : tie.Need-loop-again Inv-loop μ-loop
 loop-again c =
@@ -78,4 +48,7 @@ returns-2 c =
     sym (numbers-none (l .left) (l .ns) text (l .c .at) (omega arith)) ∙ l .inv
 
 pub numbers-from-spec : {M : Type 1} → statement M
-numbers-from-spec = tie.close (tie.spec Inv-loop μ-loop no-numbers-requires loop-holds token-requires goes-on-requires after-requires token-requires-2 pattern-at-requires with-number-requires after-requires-2 sub-left loop-less loop-again returns returns-2)
+numbers-from-spec =
+    tie.close (tie.spec Inv-loop μ-loop (λ c κs. search needs) loop-holds (λ c κs. search needs) (λ c κs. search needs) (λ c κs. search needs)
+    (λ c κs. search needs) (λ c κs. search needs) (λ c κs. search needs) (λ c κs. search needs) (λ c. search needs) (λ c. search needs) loop-again
+    returns returns-2)

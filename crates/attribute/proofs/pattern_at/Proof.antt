@@ -7,12 +7,9 @@ use Rattle.attribute.specs.Attribute.{patternAt}
 use Rattle.attribute.proofs.pattern_at.Statement.{statement}
 use Rattle.attribute.proofs.pattern_at.Tie as tie
 
-number-in-requires : tie.Need-number-in-requires
-number-in-requires c κs = search needs
-
 returns : tie.Need-returns
 unfolding patternAt
 returns c = ap (λ (n : Number). n .bits) (c .number-in .ensures)
 
 pub pattern-at-spec : {M : Type 1} → statement M
-pattern-at-spec = tie.close (tie.spec number-in-requires returns)
+pattern-at-spec = tie.close (tie.spec (λ c κs. search needs) returns)

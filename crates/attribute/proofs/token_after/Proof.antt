@@ -17,15 +17,6 @@ abbrev μ-loop : tie.MeasureT-loop
 loop-holds : tie.Need-loop-holds Inv-loop μ-loop
 loop-holds c = refl
 
-past-requires : tie.Need-past-requires Inv-loop μ-loop
-past-requires c κs = search needs
-
-sub-left : tie.Need-sub-left Inv-loop μ-loop
-sub-left c = search needs
-
-loop-less : tie.Need-loop-less Inv-loop μ-loop
-loop-less c = search needs
-
 loop-again : tie.Need-loop-again Inv-loop μ-loop
 loop-again c =
     let h = c .before .before in
@@ -33,9 +24,6 @@ loop-again c =
     let text = h .before .before .args .text .now in
     let t = c .before .loop-test .taken in
     rw (c .past .ensures) (sym (after-step (l .left) text (l .c) (omega arith)) ∙ l .inv)
-
-token-requires : tie.Need-token-requires Inv-loop μ-loop
-token-requires c κs = search needs
 
 returns : tie.Need-returns Inv-loop μ-loop
 returns c =
@@ -45,4 +33,6 @@ returns c =
     c .token .ensures ∙ sym (after-none (l .left) text (l .c) (omega arith)) ∙ l .inv
 
 pub token-after-spec : {M : Type 1} → statement M
-token-after-spec = tie.close (tie.spec Inv-loop μ-loop loop-holds past-requires sub-left loop-less loop-again token-requires returns)
+token-after-spec =
+    tie.close (tie.spec Inv-loop μ-loop loop-holds (λ c κs. search needs) (λ c. search needs) (λ c. search needs) loop-again (λ c κs. search needs)
+    returns)

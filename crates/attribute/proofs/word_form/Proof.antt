@@ -5,15 +5,9 @@ use Rattle.attribute.specs.Attribute.{wordForm}
 use Rattle.attribute.proofs.word_form.Statement.{statement}
 use Rattle.attribute.proofs.word_form.Tie as tie
 
-is-array-requires : tie.Need-is-array-requires
-is-array-requires c κs = search needs
-
 returns : tie.Need-returns
 unfolding wordForm
 returns c = simp (c .if1 .taken, ← c .before .is-array .ensures)
-
-is-dense-requires : tie.Need-is-dense-requires
-is-dense-requires c κs = search needs
 
 returns-2 : tie.Need-returns-2
 unfolding wordForm
@@ -24,4 +18,4 @@ unfolding wordForm
 returns-3 c = simp (c .if2 .left, ← c .before .is-dense .ensures, c .before .before .if1 .left, ← c .before .before .before .is-array .ensures)
 
 pub word-form-spec : {M : Type 1} → statement M
-word-form-spec = tie.close (tie.spec is-array-requires returns is-dense-requires returns-2 returns-3)
+word-form-spec = tie.close (tie.spec (λ c κs. search needs) returns (λ c κs. search needs) returns-2 returns-3)

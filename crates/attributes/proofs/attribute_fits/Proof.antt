@@ -4,39 +4,23 @@ use borrow.Author.Needs.{needs}
 use Rattle.attributes.proofs.attribute_fits.Statement.{statement}
 use Rattle.attributes.proofs.attribute_fits.Tie as tie
 
-attribute-of-requires : tie.Need-attribute-of-requires
-attribute-of-requires c κs = search needs
-
 returns : tie.Need-returns
 unfolding attributeFits
 returns c = simp (le-ltb _ _ (c .if1 .taken), ← c .before .attribute-of .ensures)
-
-attribute-slot-requires : tie.Need-attribute-slot-requires
-attribute-slot-requires c κs = search needs
 
 returns-2 : tie.Need-returns-2
 unfolding attributeFits
 returns-2 c = simp (le-ltb _ _ (c .if2 .taken), ← c .before .attribute-slot .ensures, lt-ltb _ _ (c .before .before .if1 .left), ← c .before .before .before .attribute-of .ensures)
 
-stands-at-requires : tie.Need-stands-at-requires
-stands-at-requires c κs = search needs
-
 returns-3 : tie.Need-returns-3
 unfolding attributeFits
 returns-3 c = simp (ne-eqb _ _ (c .if3 .taken), ← c .before .stands-at .ensures, lt-ltb _ _ (c .before .before .if2 .left), ← c .before .before .before .attribute-slot .ensures, lt-ltb _ _ (c .before .before .before .before .if1 .left), ← c .before .before .before .before .before .attribute-of .ensures)
-
-place-of-requires : tie.Need-place-of-requires
-place-of-requires c κs = search needs
-
-attribute-kind-requires : tie.Need-attribute-kind-requires
-attribute-kind-requires c κs = search needs
-
-kind-fits-requires : tie.Need-kind-fits-requires
-kind-fits-requires c κs = search needs
 
 returns-4 : tie.Need-returns-4
 unfolding attributeFits
 returns-4 c = simp (← c .kind-fits .ensures, ← c .before .attribute-kind .ensures, ← c .before .before .place-of .ensures, eq-eqb _ _ (c .before .before .before .if3 .left), ← c .before .before .before .before .stands-at .ensures, lt-ltb _ _ (c .before .before .before .before .before .if2 .left), ← c .before .before .before .before .before .before .attribute-slot .ensures, lt-ltb _ _ (c .before .before .before .before .before .before .before .if1 .left), ← c .before .before .before .before .before .before .before .before .attribute-of .ensures)
 
 pub attribute-fits-spec : {M : Type 1} → statement M
-attribute-fits-spec = tie.close (tie.spec attribute-of-requires returns attribute-slot-requires returns-2 stands-at-requires returns-3 place-of-requires attribute-kind-requires kind-fits-requires returns-4)
+attribute-fits-spec =
+    tie.close (tie.spec (λ c κs. search needs) returns (λ c κs. search needs) returns-2 (λ c κs. search needs) returns-3 (λ c κs. search needs)
+    (λ c κs. search needs) (λ c κs. search needs) returns-4)

@@ -6,27 +6,15 @@ use Rattle.attributes.proofs.AttributesLaw.{everywhere-is}
 use Rattle.attributes.proofs.attributes_fit.Statement.{statement}
 use Rattle.attributes.proofs.attributes_fit.Tie as tie
 
-count-of-requires : tie.Need-count-of-requires
-count-of-requires c κs = search needs
-
 returns : tie.Need-returns
 unfolding attributesFit
 returns c = simp (le-ltb _ _ (c .if1 .taken), ← c .before .count-of .ensures)
-
-first-unfit-requires : tie.Need-first-unfit-requires
-first-unfit-requires c κs = search needs
-
-attributes-of-requires : tie.Need-attributes-of-requires
-attributes-of-requires c κs = search needs
 
 returns-2 : tie.Need-returns-2
 unfolding attributesFit
 returns-2 c =
     let e = everywhere-is _ _ _ _ (c .before .before .first-unfit .ensures) (c .before .attributes-of .ensures) ∙ ne-eqb _ _ (c .if2 .taken) in
     simp (lt-ltb _ _ (c .before .before .before .if1 .left), ← c .before .before .before .before .count-of .ensures, e)
-
-first-missing-requires : tie.Need-first-missing-requires
-first-missing-requires c κs = search needs
 
 returns-3 : tie.Need-returns-3
 unfolding attributesFit
@@ -36,4 +24,5 @@ returns-3 c =
     simp (lt-ltb _ _ (c .before .before .before .before .before .if1 .left), ← c .before .before .before .before .before .before .count-of .ensures, e, m)
 
 pub attributes-fit-spec : {M : Type 1} → statement M
-attributes-fit-spec = tie.close (tie.spec count-of-requires returns first-unfit-requires attributes-of-requires returns-2 first-missing-requires returns-3)
+attributes-fit-spec =
+    tie.close (tie.spec (λ c κs. search needs) returns (λ c κs. search needs) (λ c κs. search needs) returns-2 (λ c κs. search needs) returns-3)

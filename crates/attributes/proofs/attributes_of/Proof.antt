@@ -3,9 +3,6 @@ use borrow.Author.Needs.{needs}
 use Rattle.attributes.proofs.attributes_of.Statement.{statement}
 use Rattle.attributes.proofs.attributes_of.Tie as tie
 
-count-of-requires : tie.Need-count-of-requires
-count-of-requires c κs = search needs
-
 returns : tie.Need-returns
 unfolding attributesOf
 returns c = search needs
@@ -15,4 +12,4 @@ unfolding attributesOf
 returns-2 c = search needs
 
 pub attributes-of-spec : {M : Type 1} → statement M
-attributes-of-spec = tie.close (tie.spec count-of-requires returns returns-2)
+attributes-of-spec = tie.close (tie.spec (λ c κs. search needs) returns returns-2)

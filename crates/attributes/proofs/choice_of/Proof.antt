@@ -3,15 +3,6 @@ use borrow.Author.Needs.{needs}
 use Rattle.attributes.proofs.choice_of.Statement.{statement}
 use Rattle.attributes.proofs.choice_of.Tie as tie
 
-stands-requires : tie.Need-stands-requires
-stands-requires c κs = search needs
-
-name-of-requires : tie.Need-name-of-requires
-name-of-requires c κs = search needs
-
-choice-at-requires : tie.Need-choice-at-requires
-choice-at-requires c κs = search needs
-
 returns : tie.Need-returns
 unfolding choiceOf
 returns c = simp (← c .choice-at .ensures, ← c .before .name-of .ensures, c .before .before .if1 .taken, ← c .before .before .before .stands .ensures)
@@ -21,4 +12,4 @@ unfolding choiceOf
 returns-2 c = simp (c .if1 .left, ← c .before .stands .ensures)
 
 pub choice-of-spec : {M : Type 1} → statement M
-choice-of-spec = tie.close (tie.spec stands-requires name-of-requires choice-at-requires returns returns-2)
+choice-of-spec = tie.close (tie.spec (λ c κs. search needs) (λ c κs. search needs) (λ c κs. search needs) returns returns-2)

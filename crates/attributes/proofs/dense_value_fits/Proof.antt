@@ -4,12 +4,6 @@ use Rattle.places.proofs.TypeInLaw.{type-in-sized}
 use Rattle.attributes.proofs.dense_value_fits.Statement.{statement}
 use Rattle.attributes.proofs.dense_value_fits.Tie as tie
 
-dense-at-requires : tie.Need-dense-at-requires
-dense-at-requires c κs = search needs
-
-type-in-requires : tie.Need-type-in-requires
-type-in-requires c κs = search needs
-
 dense-fits-requires : tie.Need-dense-fits-requires
 dense-fits-requires c κs = rw (c .before .type-in .ensures) (type-in-sized _ _ .rank)
 
@@ -18,4 +12,4 @@ unfolding denseFits
 returns c = cc (c .dense-fits .ensures, c .before .before .type-in .ensures, c .before .before .before .dense-at .ensures)
 
 pub dense-value-fits-spec : {M : Type 1} → statement M
-dense-value-fits-spec = tie.close (tie.spec dense-at-requires type-in-requires dense-fits-requires returns)
+dense-value-fits-spec = tie.close (tie.spec (λ c κs. search needs) (λ c κs. search needs) dense-fits-requires returns)

@@ -20,12 +20,6 @@ loop-holds c =
     let a = c .before .args in
     (omega arith, reach-none (a .row .needed) (λ s. stands (a .text .now) (a .op) (neededAt (a .row) s)))
 
-needed-at-requires : tie.Need-needed-at-requires Inv-loop μ-loop
-needed-at-requires c κs = search needs
-
-stands-requires : tie.Need-stands-requires Inv-loop μ-loop
-stands-requires c κs = search needs
-
 returns : tie.Need-returns Inv-loop μ-loop
 returns c =
     let h = c .before .before .before .before in
@@ -33,12 +27,6 @@ returns c =
     let here : ℕ → Bool = λ s. stands (a .text .now) (a .op) (neededAt (a .row) s) in
     let e = rw (c .before .before .needed-at .ensures) at (c .before .stands .ensures) in
     reach-here (a .row .needed) here (h .loop .s) (h .loop .inv .1) (omega arith) (sym e ∙ not-true _ (c .if1 .taken))
-
-add-s : tie.Need-add-s Inv-loop μ-loop
-add-s c = search needs
-
-loop-less : tie.Need-loop-less Inv-loop μ-loop
-loop-less c = search needs
 
 loop-again : tie.Need-loop-again Inv-loop μ-loop
 loop-again c =
@@ -55,4 +43,6 @@ returns-2 c =
     reach-end (a .row .needed) (λ s. stands (a .text .now) (a .op) (neededAt (a .row) s)) (h .loop .s) (h .loop .inv .1) (omega arith) (omega arith)
 
 pub first-missing-spec : {M : Type 1} → statement M
-first-missing-spec = tie.close (tie.spec Inv-loop μ-loop loop-holds needed-at-requires stands-requires returns add-s loop-less loop-again returns-2)
+first-missing-spec =
+    tie.close (tie.spec Inv-loop μ-loop loop-holds (λ c κs. search needs) (λ c κs. search needs) returns (λ c. search needs) (λ c. search needs)
+    loop-again returns-2)

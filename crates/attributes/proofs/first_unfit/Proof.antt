@@ -15,9 +15,6 @@ Inv-loop text op row n j₀ j = (n ≡ attributesOf op) × (j ≤ n) × Reached 
 abbrev μ-loop : tie.MeasureT-loop
 μ-loop text op row n j₀ j = n - j
 
-attributes-of-requires : tie.Need-attributes-of-requires Inv-loop μ-loop
-attributes-of-requires c κs = search needs
-
 loop-holds : tie.Need-loop-holds Inv-loop μ-loop
 loop-holds c =
     let a = c .before .before .args in
@@ -33,12 +30,6 @@ returns c =
     let fits = attributeFits (a .text .now) (a .op) (a .row) in
     rw (← h .loop .inv .0)
     (reach-here (h .before .attributes-of .result) fits (h .loop .j) (h .loop .inv .2) (omega arith) (sym (c .before .attribute-fits .ensures) ∙ not-true _ (c .if1 .taken)))
-
-add-j : tie.Need-add-j Inv-loop μ-loop
-add-j c = search needs
-
-loop-less : tie.Need-loop-less Inv-loop μ-loop
-loop-less c = search needs
 
 loop-again : tie.Need-loop-again Inv-loop μ-loop
 loop-again c =
@@ -58,4 +49,6 @@ returns-2 c =
     (reach-end (h .before .attributes-of .result) (attributeFits (a .text .now) (a .op) (a .row)) (h .loop .j) (h .loop .inv .2) (omega arith) (omega arith))
 
 pub first-unfit-spec : {M : Type 1} → statement M
-first-unfit-spec = tie.close (tie.spec Inv-loop μ-loop attributes-of-requires loop-holds attribute-fits-requires returns add-j loop-less loop-again returns-2)
+first-unfit-spec =
+    tie.close (tie.spec Inv-loop μ-loop (λ c κs. search needs) loop-holds attribute-fits-requires returns (λ c. search needs) (λ c. search needs)
+    loop-again returns-2)

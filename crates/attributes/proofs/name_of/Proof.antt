@@ -5,12 +5,6 @@ use Rattle.attributes.proofs.AttributesLaw.{stands-below}
 use Rattle.attributes.proofs.name_of.Statement.{statement}
 use Rattle.attributes.proofs.name_of.Tie as tie
 
-stands-requires : tie.Need-stands-requires
-stands-requires c κs = search needs
-
-stands-at-requires : tie.Need-stands-at-requires
-stands-at-requires c κs = search needs
-
 place-of-requires : tie.Need-place-of-requires
 place-of-requires c κs =
     (search needs, rw (c .stands-at .ensures) (stands-below _ _ _ (sym (c .before .before .stands .ensures) ∙ c .before .if1 .taken)))
@@ -24,4 +18,4 @@ unfolding nameOf
 returns-2 c = simp (c .if1 .left, ← c .before .stands .ensures)
 
 pub name-of-spec : {M : Type 1} → statement M
-name-of-spec = tie.close (tie.spec stands-requires stands-at-requires place-of-requires returns returns-2)
+name-of-spec = tie.close (tie.spec (λ c κs. search needs) (λ c κs. search needs) place-of-requires returns returns-2)

@@ -4,18 +4,9 @@ use borrow.Author.Needs.{needs}
 use Rattle.attributes.proofs.numbers_by.Statement.{statement}
 use Rattle.attributes.proofs.numbers_by.Tie as tie
 
-numbers-at-requires : tie.Need-numbers-at-requires
-numbers-at-requires c κs = search needs
-
 returns : tie.Need-returns
 unfolding numbersBy
 returns c = simp (← c .before .numbers-at .ensures, eq-eqb _ _ (c .before .before .if1 .taken))
-
-number-at-requires : tie.Need-number-at-requires
-number-at-requires c κs = search needs
-
-array-write-list : tie.Need-array-write-list
-array-write-list c = search needs
 
 returns-2 : tie.Need-returns-2
 unfolding numbersBy
@@ -26,4 +17,4 @@ unfolding numbersBy
 returns-3 c = simp (ne-eqb _ _ (c .if2 .left), ne-eqb _ _ (c .before .if1 .left))
 
 pub numbers-by-spec : {M : Type 1} → statement M
-numbers-by-spec = tie.close (tie.spec numbers-at-requires returns number-at-requires array-write-list returns-2 returns-3)
+numbers-by-spec = tie.close (tie.spec (λ c κs. search needs) returns (λ c κs. search needs) (λ c. search needs) returns-2 returns-3)

@@ -15,9 +15,6 @@ Inv-loop text op k n j₀ j = (n ≡ attributesOf op) × (j ≤ n) × Sought tex
 abbrev μ-loop : tie.MeasureT-loop
 μ-loop text op k n j₀ j = n - j
 
-attributes-of-requires : tie.Need-attributes-of-requires Inv-loop μ-loop
-attributes-of-requires c κs = search needs
-
 loop-holds : tie.Need-loop-holds Inv-loop μ-loop
 loop-holds c = (c .attributes-of .ensures, omega arith, let a = c .before .before .args in seek-none (a .text .now) (a .op) (a .k))
 
@@ -30,12 +27,6 @@ returns c =
     let h = c .before .before .loop-test .taken in
     let a = c .before .before .before .before .before .before .args in
     seek-here (a .text .now) (a .op) (a .k) (c .before .before .before .loop .j) (v .2) (rw (← v .0) h) (rw (← c .before .attribute-of .ensures) (eq-eqb _ _ (c .if1 .taken)))
-
-add-j : tie.Need-add-j Inv-loop μ-loop
-add-j c = search needs
-
-loop-less : tie.Need-loop-less Inv-loop μ-loop
-loop-less c = search needs
 
 loop-again : tie.Need-loop-again Inv-loop μ-loop
 loop-again c =
@@ -51,4 +42,6 @@ returns-2 c =
     v .0 ∙ seek-end (a .text .now) (a .op) (a .k) (c .before .loop .j) (v .2) (rw (← v .0) (c .loop-test .left)) (rw (← v .0) (v .1))
 
 pub stands-at-spec : {M : Type 1} → statement M
-stands-at-spec = tie.close (tie.spec Inv-loop μ-loop attributes-of-requires loop-holds attribute-of-requires returns add-j loop-less loop-again returns-2)
+stands-at-spec =
+    tie.close (tie.spec Inv-loop μ-loop (λ c κs. search needs) loop-holds attribute-of-requires returns (λ c. search needs) (λ c. search needs)
+    loop-again returns-2)

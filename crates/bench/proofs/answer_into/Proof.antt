@@ -6,15 +6,6 @@ use Rattle.bench.specs.Place.{placed, answerOf}
 use Rattle.bench.proofs.answer_into.Statement.{statement}
 use Rattle.bench.proofs.answer_into.Tie as tie
 
-slice-write-place : tie.Need-slice-write-place
-slice-write-place c = search needs
-
-slice-write-place-2 : tie.Need-slice-write-place-2
-slice-write-place-2 c = search needs
-
-same-length : tie.Need-same-length
-same-length c = search needs
-
 returns : tie.Need-returns
 unfolding answerOf placed
 returns c = simp (lt-ltb _ _ (c .if1 .taken))
@@ -24,11 +15,4 @@ unfolding answerOf placed
 returns-2 c = simp (le-ltb _ _ (c .if1 .left))
 
 pub answer-into-spec : {M : Type 1} → statement M
-answer-into-spec =
-    tie.close
-    (tie.spec
-    slice-write-place
-    slice-write-place-2
-    same-length
-    returns
-    returns-2)
+answer-into-spec = tie.close (tie.spec (λ c. search needs) (λ c. search needs) (λ c. search needs) returns returns-2)

@@ -5,15 +5,9 @@ use borrow.Author.Needs.{needs}
 use Rattle.bodies.proofs.argument_type.Statement.{statement}
 use Rattle.bodies.proofs.argument_type.Tie as tie
 
-body-at-requires : tie.Need-body-at-requires
-body-at-requires c κs = search needs
-
-type-of-requires : tie.Need-type-of-requires
-type-of-requires c κs = search needs
-
 returns : tie.Need-returns
 unfolding argumentType
 returns c = simp (← c .type-of .ensures, ← c .before .body-at .ensures)
 
 pub argument-type-spec : {M : Type 1} → statement M
-argument-type-spec = tie.close (tie.spec body-at-requires type-of-requires returns)
+argument-type-spec = tie.close (tie.spec (λ c κs. search needs) (λ c κs. search needs) returns)

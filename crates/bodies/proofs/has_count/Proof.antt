@@ -5,12 +5,9 @@ use borrow.Author.Needs.{needs}
 use Rattle.bodies.proofs.has_count.Statement.{statement}
 use Rattle.bodies.proofs.has_count.Tie as tie
 
-count-of-requires : tie.Need-count-of-requires
-count-of-requires c κs = search needs
-
 returns : tie.Need-returns
 unfolding hasCount
 returns c = simp (← c .count-of .ensures)
 
 pub has-count-spec : {M : Type 1} → statement M
-has-count-spec = tie.close (tie.spec count-of-requires returns)
+has-count-spec = tie.close (tie.spec (λ c κs. search needs) returns)

@@ -15,9 +15,6 @@ abbrev μ-loop : tie.MeasureT-loop
 loop-holds : tie.Need-loop-holds Inv-loop μ-loop
 loop-holds c = omega arith
 
-some-bytes-requires : tie.Need-some-bytes-requires Inv-loop μ-loop
-some-bytes-requires c κs = search needs
-
 returns : tie.Need-returns Inv-loop μ-loop
 returns c = omega arith
 
@@ -37,16 +34,4 @@ returns-2 : tie.Need-returns-2 Inv-loop μ-loop
 returns-2 c = omega arith
 
 pub further-bytes-spec : {M : Type 1} → statement M
-further-bytes-spec =
-    tie.close
-    (tie.spec
-    Inv-loop
-    μ-loop
-    loop-holds
-    some-bytes-requires
-    returns
-    add-total
-    sub-turns
-    loop-less
-    loop-again
-    returns-2)
+further-bytes-spec = tie.close (tie.spec Inv-loop μ-loop loop-holds (λ c κs. search needs) returns add-total sub-turns loop-less loop-again returns-2)

@@ -5,12 +5,9 @@ use Rattle.cursor.specs.Cursor.{tokenOf}
 use Rattle.cursor.proofs.token.Statement.{statement}
 use Rattle.cursor.proofs.token.Tie as tie
 
-token-at-requires : tie.Need-token-at-requires
-token-at-requires c κs = search needs
-
 returns : tie.Need-returns
 unfolding tokenOf
 returns c = c .token-at .ensures
 
 pub token-spec : {M : Type 1} → statement M
-token-spec = tie.close (tie.spec token-at-requires returns)
+token-spec = tie.close (tie.spec (λ c κs. search needs) returns)

@@ -5,18 +5,6 @@ use borrow.Author.Needs.{needs}
 use Rattle.dense.proofs.element.Statement.{statement}
 use Rattle.dense.proofs.element.Tie as tie
 
-token-at-requires : tie.Need-token-at-requires
-token-at-requires c κs = search needs
-
-literal-requires : tie.Need-literal-requires
-literal-requires c κs = search needs
-
-put-slot-requires : tie.Need-put-slot-requires
-put-slot-requires c κs = search needs
-
-same-length : tie.Need-same-length
-same-length c = search needs
-
 returns : tie.Need-returns
 unfolding after oneAt
 returns c = simp (lay-one, ← c .before .before .put-slot .ensures, c .before .before .before .before .if1 .taken, ← c .before .before .before .before .before .literal .ensures, ← c .before .before .before .before .before .before .token-at .ensures)
@@ -26,6 +14,4 @@ unfolding after oneAt
 returns-2 c = simp (lay-none, c .if1 .left, ← c .before .literal .ensures, ← c .before .before .token-at .ensures)
 
 pub element-spec : {M : Type 1} → statement M
-element-spec =
-    tie.close
-    (tie.spec token-at-requires literal-requires put-slot-requires same-length returns returns-2)
+element-spec = tie.close (tie.spec (λ c κs. search needs) (λ c κs. search needs) (λ c κs. search needs) (λ c. search needs) returns returns-2)

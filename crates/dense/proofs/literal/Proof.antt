@@ -4,18 +4,9 @@ use borrow.Author.Needs.{needs}
 use Rattle.dense.proofs.literal.Statement.{statement}
 use Rattle.dense.proofs.literal.Tie as tie
 
-is-bool-requires : tie.Need-is-bool-requires
-is-bool-requires c κs = search needs
-
-boolean-requires : tie.Need-boolean-requires
-boolean-requires c κs = search needs
-
 returns : tie.Need-returns
 unfolding literalOf
 returns c = simp (← c .boolean .ensures, c .before .if1 .taken, ← c .before .before .is-bool .ensures)
-
-number-in-requires : tie.Need-number-in-requires
-number-in-requires c κs = search needs
 
 returns-2 : tie.Need-returns-2
 unfolding literalOf
@@ -26,6 +17,4 @@ unfolding literalOf
 returns-3 c = simp (ne-eqb _ _ (c .if2 .left), c .before .before .if1 .left, ← c .before .before .before .is-bool .ensures)
 
 pub literal-spec : {M : Type 1} → statement M
-literal-spec =
-    tie.close
-    (tie.spec is-bool-requires boolean-requires returns number-in-requires returns-2 returns-3)
+literal-spec = tie.close (tie.spec (λ c κs. search needs) (λ c κs. search needs) returns (λ c κs. search needs) returns-2 returns-3)

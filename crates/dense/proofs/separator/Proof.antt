@@ -8,12 +8,9 @@ returns : tie.Need-returns
 unfolding before
 returns c = simp (eq-eqb _ _ (c .if1 .taken))
 
-mark-requires : tie.Need-mark-requires
-mark-requires c κs = search needs
-
 returns-2 : tie.Need-returns-2
 unfolding before markAt
 returns-2 c = rw (ne-eqb _ _ (c .before .if1 .left)) (c .mark .ensures)
 
 pub separator-spec : {M : Type 1} → statement M
-separator-spec = tie.close (tie.spec returns mark-requires returns-2)
+separator-spec = tie.close (tie.spec returns (λ c κs. search needs) returns-2)

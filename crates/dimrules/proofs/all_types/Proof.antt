@@ -4,12 +4,9 @@ use borrow.Author.Needs.{needs}
 use Rattle.dimrules.proofs.all_types.Statement.{statement}
 use Rattle.dimrules.proofs.all_types.Tie as tie
 
-first-type-requires : tie.Need-first-type-requires
-first-type-requires c κs = search needs
-
 returns : tie.Need-returns
 unfolding everywhere allTypes
 returns c = simp (c .first-type .ensures)
 
 pub all-types-spec : {M : Type 1} → statement M
-all-types-spec = tie.close (tie.spec first-type-requires returns)
+all-types-spec = tie.close (tie.spec (λ c κs. search needs) returns)

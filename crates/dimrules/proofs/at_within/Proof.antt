@@ -15,14 +15,8 @@ returns-2 c =
     let six : length (a .t1) ≡ 6 = search needs in
     at-outside (a .t1) (a .n) (a .d) (omega arith)
 
-mul-result : tie.Need-mul-result
-mul-result c = search needs
-
-array-read-result : tie.Need-array-read-result
-array-read-result c = search needs
-
 returns-3 : tie.Need-returns-3
 returns-3 c = let a = c .before .before .args in at-inside (a .t1) (a .n) (a .d) (search needs)
 
 pub at-within-spec : {M : Type 1} → statement M
-at-within-spec = tie.close (tie.spec returns returns-2 mul-result array-read-result returns-3)
+at-within-spec = tie.close (tie.spec returns returns-2 (λ c. search needs) (λ c. search needs) returns-3)

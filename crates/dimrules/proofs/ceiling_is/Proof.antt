@@ -7,7 +7,6 @@ use mathlib.Core.Path.{_≡_, sym, ap, _∙_}
 use native.Mathlib.Nat.{div-le-self}
 use native.Mathlib.Omega.{arith}
 use Rattle.dimrules.specs.Whole.{ceilingIs}
-use borrow.Author.Tests.{lt-ltb, le-ltb}
 use borrow.Author.Needs.{needs}
 use Rattle.dimrules.proofs.ceiling_is.Statement.{statement}
 use Rattle.dimrules.proofs.ceiling_is.Tie as tie
@@ -15,15 +14,6 @@ use Rattle.dimrules.proofs.ceiling_is.Tie as tie
 returns : tie.Need-returns
 unfolding ceilingIs
 returns c = simp (le-ltb 0 (c .before .args .stride) (omega arith))
-
-sub-result : tie.Need-sub-result
-sub-result c = search needs
-
-sub-result-2 : tie.Need-sub-result-2
-sub-result-2 c = search needs
-
-div-result : tie.Need-div-result
-div-result c = search needs
 
 add-result : tie.Need-add-result
 add-result c = omega (arith, div-le-self (c .before .before .args .l - c .before .before .args .s - 1) (c .before .before .args .stride))
@@ -42,5 +32,4 @@ returns-3 c =
     simp (lt-ltb 0 (a .stride) (omega arith)) (ap (eqb (a .m)) (sym (ap (λ (k : ℕ). ceilDiv k (a .stride)) z ∙ ceil-zero (a .stride) (omega arith))))
 
 pub ceiling-is-spec : {M : Type 1} → statement M
-ceiling-is-spec =
-    tie.close (tie.spec returns sub-result sub-result-2 div-result add-result returns-2 returns-3)
+ceiling-is-spec = tie.close (tie.spec returns (λ c. search needs) (λ c. search needs) (λ c. search needs) add-result returns-2 returns-3)

@@ -17,19 +17,10 @@ abbrev μ-loop : tie.MeasureT-loop
 loop-holds : tie.Need-loop-holds Inv-loop μ-loop
 loop-holds c = (omega arith, reach-none (c .args .count) (dimTest (c .args .t) (c .args .s)))
 
-dim-test-requires : tie.Need-dim-test-requires Inv-loop μ-loop
-dim-test-requires c κs = search needs
-
 returns : tie.Need-returns Inv-loop μ-loop
 returns c =
     let s = c .before .before .before .before in
     reach-here (s .args .count) (dimTest (s .args .t) (s .args .s)) (c .before .before .before .loop .d) (c .before .before .before .loop .inv .1) (omega arith) (sym (c .before .dim-test .ensures) ∙ not-true _ (c .if1 .taken))
-
-add-d : tie.Need-add-d Inv-loop μ-loop
-add-d c = search needs
-
-loop-less : tie.Need-loop-less Inv-loop μ-loop
-loop-less c = search needs
 
 loop-again : tie.Need-loop-again Inv-loop μ-loop
 loop-again c =
@@ -43,14 +34,4 @@ returns-2 c =
 
 pub first-dim-spec : {M : Type 1} → statement M
 first-dim-spec =
-    tie.close
-    (tie.spec
-    Inv-loop
-    μ-loop
-    loop-holds
-    dim-test-requires
-    returns
-    add-d
-    loop-less
-    loop-again
-    returns-2)
+    tie.close (tie.spec Inv-loop μ-loop loop-holds (λ c κs. search needs) returns (λ c. search needs) (λ c. search needs) loop-again returns-2)

@@ -17,28 +17,10 @@ abbrev μ-loop : tie.MeasureT-loop
 loop-holds : tie.Need-loop-holds Inv-loop μ-loop
 loop-holds c = (omega arith, reach-none (c .args .n) (operandTest (c .args .t) (c .args .k) (c .args .x) (c .args .t3) (c .args .from)))
 
-add-type-test : tie.Need-add-type-test Inv-loop μ-loop
-add-type-test c = search needs
-
-mul-type-test : tie.Need-mul-type-test Inv-loop μ-loop
-mul-type-test c = search needs
-
-array-copy-out-type-test : tie.Need-array-copy-out-type-test Inv-loop μ-loop
-array-copy-out-type-test c = search needs
-
-type-test-requires : tie.Need-type-test-requires Inv-loop μ-loop
-type-test-requires c κs = search needs
-
 returns : tie.Need-returns Inv-loop μ-loop
 returns c =
     let s = c .before .before .before .before .before in
     reach-here (s .args .n) (operandTest (s .args .t) (s .args .k) (s .args .x) (s .args .t3) (s .args .from)) (c .before .before .before .before .loop .j) (c .before .before .before .before .loop .inv .1) (omega arith) (sym (c .before .type-test .ensures) ∙ not-true _ (c .if1 .taken))
-
-add-j : tie.Need-add-j Inv-loop μ-loop
-add-j c = search needs
-
-loop-less : tie.Need-loop-less Inv-loop μ-loop
-loop-less c = search needs
 
 loop-again : tie.Need-loop-again Inv-loop μ-loop
 loop-again c =
@@ -52,17 +34,5 @@ returns-2 c =
 
 pub first-type-spec : {M : Type 1} → statement M
 first-type-spec =
-    tie.close
-    (tie.spec
-    Inv-loop
-    μ-loop
-    loop-holds
-    add-type-test
-    mul-type-test
-    array-copy-out-type-test
-    type-test-requires
-    returns
-    add-j
-    loop-less
-    loop-again
-    returns-2)
+    tie.close (tie.spec Inv-loop μ-loop loop-holds (λ c. search needs) (λ c. search needs) (λ c. search needs) (λ c κs. search needs) returns
+    (λ c. search needs) (λ c. search needs) loop-again returns-2)

@@ -3,12 +3,9 @@ use borrow.Author.Needs.{needs}
 use Rattle.dimrules.proofs.is_in.Statement.{statement}
 use Rattle.dimrules.proofs.is_in.Tie as tie
 
-place-in-requires : tie.Need-place-in-requires
-place-in-requires c κs = search needs
-
 returns : tie.Need-returns
 unfolding isIn
 returns c = simp (c .before .place-in .ensures)
 
 pub is-in-spec : {M : Type 1} → statement M
-is-in-spec = tie.close (tie.spec place-in-requires returns)
+is-in-spec = tie.close (tie.spec (λ c κs. search needs) returns)

@@ -7,21 +7,9 @@ use borrow.Author.Needs.{needs}
 use Rattle.dimrules.proofs.padded_is.Statement.{statement}
 use Rattle.dimrules.proofs.padded_is.Tie as tie
 
-split-requires : tie.Need-split-requires
-split-requires c κs = search needs
-
-split-requires-2 : tie.Need-split-requires-2
-split-requires-2 c κs = search needs
-
-less-one-requires : tie.Need-less-one-requires
-less-one-requires c κs = search needs
-
 returns : tie.Need-returns
 unfolding paddedIs
 returns c = simp (le-ltb _ _ (c .if1 .taken))
-
-same-sums-requires : tie.Need-same-sums-requires
-same-sums-requires c κs = search needs
 
 returns-2 : tie.Need-returns-2
 unfolding paddedIs
@@ -29,12 +17,4 @@ returns-2 c =
     simp (lt-ltb _ _ (c .before .if1 .left), leb·zero, pad-sums, c .same-sums .ensures, c .before .before .less-one .ensures, c .before .before .before .split2 .ensures .0, c .before .before .before .split2 .ensures .1, c .before .before .before .before .split .ensures .0, c .before .before .before .before .split .ensures .1)
 
 pub padded-is-spec : {M : Type 1} → statement M
-padded-is-spec =
-    tie.close
-    (tie.spec
-    split-requires
-    split-requires-2
-    less-one-requires
-    returns
-    same-sums-requires
-    returns-2)
+padded-is-spec = tie.close (tie.spec (λ c κs. search needs) (λ c κs. search needs) (λ c κs. search needs) returns (λ c κs. search needs) returns-2)

@@ -4,20 +4,8 @@ use borrow.Author.Needs.{needs}
 use Rattle.dimrules.proofs.same_but_one.Statement.{statement}
 use Rattle.dimrules.proofs.same_but_one.Tie as tie
 
-below-requires : tie.Need-below-requires
-below-requires c κs = search needs
-
-both-requires : tie.Need-both-requires
-both-requires c κs = search needs
-
-shapes-of-requires : tie.Need-shapes-of-requires
-shapes-of-requires c κs = search needs
-
 all-dims-requires : tie.Need-all-dims-requires
 all-dims-requires c κs = rw (c .shapes-of .ensures) (record { sized = c .before .before .before .before .before .before .before .pre; few = omega arith })
-
-both-requires-2 : tie.Need-both-requires-2
-both-requires-2 c κs = search needs
 
 returns : tie.Need-returns
 unfolding sameButOne
@@ -25,11 +13,4 @@ returns c = simp (c .both2 .ensures, c .before .all-dims .ensures, c .before .be
 
 pub same-but-one-spec : {M : Type 1} → statement M
 same-but-one-spec =
-    tie.close
-    (tie.spec
-    below-requires
-    both-requires
-    shapes-of-requires
-    all-dims-requires
-    both-requires-2
-    returns)
+    tie.close (tie.spec (λ c κs. search needs) (λ c κs. search needs) (λ c κs. search needs) all-dims-requires (λ c κs. search needs) returns)

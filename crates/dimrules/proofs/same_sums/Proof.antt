@@ -31,9 +31,6 @@ equal n a k i b m p q =
     halves (n + a + k * i + b) (m + p + q) (n / 4294967296 + a / 4294967296 + k * (i / 4294967296) + b / 4294967296) (n % 4294967296 + a % 4294967296 + k * (i % 4294967296) + b % 4294967296) (omega arith)
     (m / 4294967296 + p / 4294967296 + q / 4294967296) (m % 4294967296 + p % 4294967296 + q % 4294967296) (omega arith)
 
-add-l : tie.Need-add-l
-add-l c = search needs
-
 mul-l : tie.Need-mul-l
 mul-l c = omega (arith, lowProduct c)
 
@@ -43,9 +40,6 @@ add-l-2 c = omega (arith, lowProduct c)
 add-l-3 : tie.Need-add-l-3
 add-l-3 c = omega (arith, lowProduct c)
 
-add-h : tie.Need-add-h
-add-h c = search needs
-
 mul-h : tie.Need-mul-h
 mul-h c = omega (arith, highProduct c)
 
@@ -54,21 +48,6 @@ add-h-2 c = omega (arith, highProduct c)
 
 add-h-3 : tie.Need-add-h-3
 add-h-3 c = omega (arith, highProduct c)
-
-add-s : tie.Need-add-s
-add-s c = search needs
-
-add-s-2 : tie.Need-add-s-2
-add-s-2 c = search needs
-
-add-t : tie.Need-add-t
-add-t c = search needs
-
-add-t-2 : tie.Need-add-t-2
-add-t-2 c = search needs
-
-add-if1 : tie.Need-add-if1
-add-if1 c = search needs
 
 add-if1-2 : tie.Need-add-if1-2
 add-if1-2 c = omega (arith, lowProduct c, highProduct c)
@@ -85,21 +64,5 @@ returns-2 c =
 
 pub same-sums-spec : {M : Type 1} → statement M
 same-sums-spec =
-    tie.close
-    (tie.spec
-    add-l
-    mul-l
-    add-l-2
-    add-l-3
-    add-h
-    mul-h
-    add-h-2
-    add-h-3
-    add-s
-    add-s-2
-    add-t
-    add-t-2
-    add-if1
-    add-if1-2
-    returns
-    returns-2)
+    tie.close (tie.spec (λ c. search needs) mul-l add-l-2 add-l-3 (λ c. search needs) mul-h add-h-2 add-h-3 (λ c. search needs) (λ c. search needs)
+    (λ c. search needs) (λ c. search needs) (λ c. search needs) add-if1-2 returns returns-2)

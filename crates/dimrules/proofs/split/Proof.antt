@@ -8,14 +8,8 @@ use Rattle.dimrules.proofs.split.Tie as tie
 returns : tie.Need-returns
 returns c = simp (lt-ltb _ _ (c .if1 .taken)) (refl, refl)
 
-sub-t3 : tie.Need-sub-t3
-sub-t3 c = search needs
-
-add-t4 : tie.Need-add-t4
-add-t4 c = search needs
-
 returns-2 : tie.Need-returns-2
 returns-2 c = simp (le-ltb _ _ (c .if1 .left)) (refl, omega arith)
 
 pub split-spec : {M : Type 1} → statement M
-split-spec = tie.close (tie.spec returns sub-t3 add-t4 returns-2)
+split-spec = tie.close (tie.spec returns (λ c. search needs) (λ c. search needs) returns-2)

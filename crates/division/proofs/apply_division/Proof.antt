@@ -36,6 +36,5 @@ returns-4 c =
 
 pub apply-division-spec : {M : Type 1} → statement M
 apply-division-spec =
-    tie.close
-    (tie.spec returns (λ c κs. search needs) divide-signed-requires returns-2 (λ c. search needs) (λ c. search needs)
-    (λ c. search needs) (λ c. search needs) returns-3 returns-4)
+    tie.close (tie.spec returns (λ c κs. search needs) divide-signed-requires returns-2 (λ c. search needs) (λ c. search needs) (λ c. search needs)
+    (λ c. search needs) returns-3 returns-4)

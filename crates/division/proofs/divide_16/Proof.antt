@@ -37,6 +37,5 @@ returns-2 c =
 
 pub divide-16-spec : {M : Type 1} → statement M
 divide-16-spec =
-    tie.close
-    (tie.spec (λ c. search needs) (λ c. search needs) (λ c. search needs) quotient-i16-requires cast-result
-    (λ c. search needs) remainder-i16-requires cast-result-2 returns returns-2)
+    tie.close (tie.spec (λ c. search needs) (λ c. search needs) (λ c. search needs) quotient-i16-requires cast-result (λ c. search needs)
+    remainder-i16-requires cast-result-2 returns returns-2)

@@ -37,6 +37,5 @@ returns-2 c =
 
 pub divide-32-spec : {M : Type 1} → statement M
 divide-32-spec =
-    tie.close
-    (tie.spec (λ c. search needs) (λ c. search needs) (λ c. search needs) quotient-i32-requires cast-result
-    (λ c. search needs) remainder-i32-requires cast-result-2 returns returns-2)
+    tie.close (tie.spec (λ c. search needs) (λ c. search needs) (λ c. search needs) quotient-i32-requires cast-result (λ c. search needs)
+    remainder-i32-requires cast-result-2 returns returns-2)

@@ -29,6 +29,4 @@ returns-2 c =
     ∙ remainder-wrapped w64 (s .args .y) (s .fits .x))
 
 pub divide-64-spec : {M : Type 1} → statement M
-divide-64-spec =
-    tie.close
-    (tie.spec (λ c. search needs) quotient-i64-requires (λ c. search needs) remainder-i64-requires returns returns-2)
+divide-64-spec = tie.close (tie.spec (λ c. search needs) quotient-i64-requires (λ c. search needs) remainder-i64-requires returns returns-2)

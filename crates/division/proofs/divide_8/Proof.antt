@@ -37,6 +37,5 @@ returns-2 c =
 
 pub divide-8-spec : {M : Type 1} → statement M
 divide-8-spec =
-    tie.close
-    (tie.spec (λ c. search needs) (λ c. search needs) (λ c. search needs) quotient-i8-requires cast-result (λ c. search needs)
+    tie.close (tie.spec (λ c. search needs) (λ c. search needs) (λ c. search needs) quotient-i8-requires cast-result (λ c. search needs)
     remainder-i8-requires cast-result-2 returns returns-2)

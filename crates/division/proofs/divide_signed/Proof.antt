@@ -92,7 +92,6 @@ returns-4 c =
 
 pub divide-signed-spec : {M : Type 1} → statement M
 divide-signed-spec =
-    tie.close
-    (tie.spec (λ c κs. search needs) (λ c κs. search needs) (λ c κs. search needs) divide-8-requires (λ c κs. search needs)
-    divide-16-requires (λ c κs. search needs) divide-32-requires (λ c κs. search needs) divide-64-requires
-    (λ c κs. search needs) returns returns-2 returns-3 returns-4)
+    tie.close (tie.spec (λ c κs. search needs) (λ c κs. search needs) (λ c κs. search needs) divide-8-requires (λ c κs. search needs)
+    divide-16-requires (λ c κs. search needs) divide-32-requires (λ c κs. search needs) divide-64-requires (λ c κs. search needs) returns returns-2
+    returns-3 returns-4)

@@ -24,6 +24,4 @@ returns-3 c =
     fit-unsigned (s .args .t) (s .fits .x .fits) (c .before .before .mask .ensures) (sym (c .before .is-signed .ensures) ∙ c .if1 .left)
 
 pub fit-spec : {M : Type 1} → statement M
-fit-spec =
-    tie.close
-    (tie.spec (λ c κs. search needs) (λ c κs. search needs) (λ c. search needs) add-result returns returns-2 returns-3)
+fit-spec = tie.close (tie.spec (λ c κs. search needs) (λ c κs. search needs) (λ c. search needs) add-result returns returns-2 returns-3)

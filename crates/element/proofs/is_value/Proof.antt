@@ -21,6 +21,4 @@ returns-3 c =
     (sym (c .before .is-signed .ensures) ∙ c .if2 .left)
 
 pub is-value-spec : {M : Type 1} → statement M
-is-value-spec =
-    tie.close
-    (tie.spec (λ c κs. search needs) returns (λ c κs. search needs) (λ c κs. search needs) returns-2 returns-3)
+is-value-spec = tie.close (tie.spec (λ c κs. search needs) returns (λ c κs. search needs) (λ c κs. search needs) returns-2 returns-3)

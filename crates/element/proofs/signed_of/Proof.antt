@@ -13,6 +13,4 @@ returns-2 : tie.Need-returns-2
 returns-2 c = signed-high (c .if1 .left) (c .before .fits .s .fits)
 
 pub signed-of-spec : {M : Type 1} → statement M
-signed-of-spec =
-    tie.close
-    (tie.spec (λ c. search needs) (λ c. search needs) (λ c. search needs) sub-result-2 returns returns-2)
+signed-of-spec = tie.close (tie.spec (λ c. search needs) (λ c. search needs) (λ c. search needs) sub-result-2 returns returns-2)

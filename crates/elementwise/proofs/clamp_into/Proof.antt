@@ -24,53 +24,14 @@ spread-element-requires-2 : tie.Need-spread-element-requires-2 Inv-loop μ-loop
 spread-element-requires-2 c κs =
     spread-within (c .before .before .before .before .before .before .before .args .other) (length (c .before .before .before .before .before .before .before .args .out .now)) (c .before .before .loop .k) (c .before .before .before .before .before .before .before .args .max .now) (c .before .before .before .before .before .before .before .pre .high) (omega (arith, c .before .loop-test .taken, c .before .before .loop .inv .size))
 
-mul-clamp : tie.Need-mul-clamp Inv-loop μ-loop
-mul-clamp c = search needs
-
-shared-slice-read-clamp : tie.Need-shared-slice-read-clamp Inv-loop μ-loop
-shared-slice-read-clamp c = search needs
-
-clamp-requires : tie.Need-clamp-requires Inv-loop μ-loop
-clamp-requires c κs = search needs
-
-mul-out : tie.Need-mul-out Inv-loop μ-loop
-mul-out c = search needs
-
-slice-write-out : tie.Need-slice-write-out Inv-loop μ-loop
-slice-write-out c = search needs
-
-add-k : tie.Need-add-k Inv-loop μ-loop
-add-k c = search needs
-
-loop-less : tie.Need-loop-less Inv-loop μ-loop
-loop-less c = search needs
-
 loop-again : tie.Need-loop-again Inv-loop μ-loop
 loop-again c =
     done-next _ (c .before .before .before .before .loop-test .taken) (rw (c .before .before .before .spread-element .ensures, c .before .before .spread-element2 .ensures) at (c .clamp .ensures)) (c .before .before .before .before .before .loop .inv)
-
-same-length : tie.Need-same-length Inv-loop μ-loop
-same-length c = search needs
 
 returns : tie.Need-returns Inv-loop μ-loop
 returns c = done-all (c .loop-test .left) (c .before .loop .inv)
 
 pub clamp-into-spec : {M : Type 1} → statement M
 clamp-into-spec =
-    tie.close
-    (tie.spec
-    Inv-loop
-    μ-loop
-    loop-holds
-    spread-element-requires
-    spread-element-requires-2
-    mul-clamp
-    shared-slice-read-clamp
-    clamp-requires
-    mul-out
-    slice-write-out
-    add-k
-    loop-less
-    loop-again
-    same-length
-    returns)
+    tie.close (tie.spec Inv-loop μ-loop loop-holds spread-element-requires spread-element-requires-2 (λ c. search needs) (λ c. search needs)
+    (λ c κs. search needs) (λ c. search needs) (λ c. search needs) (λ c. search needs) (λ c. search needs) loop-again (λ c. search needs) returns)

@@ -3,15 +3,6 @@ use borrow.Author.Needs.{needs}
 use Rattle.elementwise.proofs.divide_slots.Statement.{statement}
 use Rattle.elementwise.proofs.divide_slots.Tie as tie
 
-apply-division-requires : tie.Need-apply-division-requires
-apply-division-requires c κs = search needs
-
-enum-known-d : tie.Need-enum-known-d
-enum-known-d c = search needs
-
-enum-told : tie.Need-enum-told
-enum-told c = search needs
-
 returns : tie.Need-returns
 unfolding divisionOf
 returns c = simp (c .before .d .given .1, ← c .before .before .before .apply-division .ensures)
@@ -21,5 +12,4 @@ unfolding divisionOf
 returns-2 c = simp (c .enum-told .given .1, ← c .before .before .apply-division .ensures)
 
 pub divide-slots-spec : {M : Type 1} → statement M
-divide-slots-spec =
-    tie.close (tie.spec apply-division-requires enum-known-d enum-told returns returns-2)
+divide-slots-spec = tie.close (tie.spec (λ c κs. search needs) (λ c. search needs) (λ c. search needs) returns returns-2)

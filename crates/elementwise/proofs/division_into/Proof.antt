@@ -29,23 +29,8 @@ walk-holds c = (done-none, passed-none _ _)
 loop-holds : tie.Need-loop-holds Inv-loop μ-loop Inv-walk μ-walk
 loop-holds c = (done-none, λ h. absurd (omega arith))
 
-operand-at-requires : tie.Need-operand-at-requires Inv-loop μ-loop Inv-walk μ-walk
-operand-at-requires c κs = search needs
-
 is-zero-divisor-requires : tie.Need-is-zero-divisor-requires Inv-loop μ-loop Inv-walk μ-walk
 is-zero-divisor-requires c κs = tt
-
-mul-pair : tie.Need-mul-pair Inv-loop μ-loop Inv-walk μ-walk
-mul-pair c = search needs
-
-array-write-pair : tie.Need-array-write-pair Inv-loop μ-loop Inv-walk μ-walk
-array-write-pair c = search needs
-
-add-j : tie.Need-add-j Inv-loop μ-loop Inv-walk μ-walk
-add-j c = search needs
-
-loop-less : tie.Need-loop-less Inv-loop μ-loop Inv-walk μ-walk
-loop-less c = search needs
 
 loop-again : tie.Need-loop-again Inv-loop μ-loop Inv-walk μ-walk
 loop-again c =
@@ -56,12 +41,6 @@ loop-again c =
     let j = c .before .before .before .before .loop .j in
     (done-next _ (omega (arith, inv .0 .size)) read (inv .0), none-here (args .x .now) (args .y .now) k j _ read (c .if2 .left) (c .before .is-zero-divisor .ensures))
 
-array-read-divide-slots : tie.Need-array-read-divide-slots Inv-loop μ-loop Inv-walk μ-walk
-array-read-divide-slots c = search needs
-
-array-read-divide-slots-2 : tie.Need-array-read-divide-slots-2 Inv-loop μ-loop Inv-walk μ-walk
-array-read-divide-slots-2 c = search needs
-
 divide-slots-requires : tie.Need-divide-slots-requires Inv-loop μ-loop Inv-walk μ-walk
 divide-slots-requires c κs =
     let inv = c .before .loop .inv .0 in
@@ -71,18 +50,6 @@ divide-slots-requires c κs =
       rw (done-at 1 (omega arith) inv) (value-at (pre .1) k (c .before .before .if1 .left)),
     )
 
-mul-out : tie.Need-mul-out Inv-loop μ-loop Inv-walk μ-walk
-mul-out c = search needs
-
-slice-write-out : tie.Need-slice-write-out Inv-loop μ-loop Inv-walk μ-walk
-slice-write-out c = search needs
-
-add-k : tie.Need-add-k Inv-loop μ-loop Inv-walk μ-walk
-add-k c = search needs
-
-walk-less : tie.Need-walk-less Inv-loop μ-loop Inv-walk μ-walk
-walk-less c = search needs
-
 walk-again : tie.Need-walk-again Inv-loop μ-loop Inv-walk μ-walk
 walk-again c =
     let inv = c .before .before .loop .inv in
@@ -91,9 +58,6 @@ walk-again c =
       done-next _ (omega (arith, walk .0 .size)) (rw (done-at 0 (omega arith) (inv .0), done-at 1 (omega arith) (inv .0)) at (c .divide-slots .ensures)) (walk .0),
       passed-next isZero _ _ (omega (arith, pre .1 .sized)) (inv .1 (omega arith)) (walk .1),
     )
-
-same-length : tie.Need-same-length Inv-loop μ-loop Inv-walk μ-walk
-same-length c = search needs
 
 returns : tie.Need-returns Inv-loop μ-loop Inv-walk μ-walk
 returns c =
@@ -107,9 +71,6 @@ returns c =
     rw (p .6)
     (zero-at (pre .1 .sized) k (p .0 .left) (zero-here (args .x .now) (args .y .now) k (p .1 .j) (p .3 .result) (p .3 .ensures) (p .5 .taken) (p .4 .ensures)) (walk .1) (walk .0)))
 
-same-length-2 : tie.Need-same-length-2 Inv-loop μ-loop Inv-walk μ-walk
-same-length-2 c = search needs
-
 returns-2 : tie.Need-returns-2 Inv-loop μ-loop Inv-walk μ-walk
 returns-2 c =
     let pre = c .before .before .before .before .before .before .pre in
@@ -120,30 +81,7 @@ returns-2 c =
 
 pub division-into-spec : {M : Type 1} → statement M
 division-into-spec =
-    tie.close
-    (tie.spec
-    Inv-loop
-    μ-loop
-    Inv-walk
-    μ-walk
-    walk-holds
-    loop-holds
-    operand-at-requires
-    is-zero-divisor-requires
-    mul-pair
-    array-write-pair
-    add-j
-    loop-less
-    loop-again
-    array-read-divide-slots
-    array-read-divide-slots-2
-    divide-slots-requires
-    mul-out
-    slice-write-out
-    add-k
-    walk-less
-    walk-again
-    same-length
-    returns
-    same-length-2
+    tie.close (tie.spec Inv-loop μ-loop Inv-walk μ-walk walk-holds loop-holds (λ c κs. search needs) is-zero-divisor-requires (λ c. search needs)
+    (λ c. search needs) (λ c. search needs) (λ c. search needs) loop-again (λ c. search needs) (λ c. search needs) divide-slots-requires
+    (λ c. search needs) (λ c. search needs) (λ c. search needs) (λ c. search needs) walk-again (λ c. search needs) returns (λ c. search needs)
     returns-2)

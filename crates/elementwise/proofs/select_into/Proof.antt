@@ -20,60 +20,15 @@ spread-element-requires : tie.Need-spread-element-requires Inv-loop μ-loop
 spread-element-requires c κs =
     spread-within (c .before .before .before .before .before .before .args .single) (length (c .before .before .before .before .before .before .args .out .now)) (c .before .loop .k) (c .before .before .before .before .before .before .args .pred .now) (c .before .before .before .before .before .before .pre .asked) (omega (arith, c .loop-test .taken, c .before .loop .inv .size))
 
-mul-select : tie.Need-mul-select Inv-loop μ-loop
-mul-select c = search needs
-
-shared-slice-read-select : tie.Need-shared-slice-read-select Inv-loop μ-loop
-shared-slice-read-select c = search needs
-
-mul-select-2 : tie.Need-mul-select-2 Inv-loop μ-loop
-mul-select-2 c = search needs
-
-shared-slice-read-select-2 : tie.Need-shared-slice-read-select-2 Inv-loop μ-loop
-shared-slice-read-select-2 c = search needs
-
-select-requires : tie.Need-select-requires Inv-loop μ-loop
-select-requires c κs = search needs
-
-mul-out : tie.Need-mul-out Inv-loop μ-loop
-mul-out c = search needs
-
-slice-write-out : tie.Need-slice-write-out Inv-loop μ-loop
-slice-write-out c = search needs
-
-add-k : tie.Need-add-k Inv-loop μ-loop
-add-k c = search needs
-
-loop-less : tie.Need-loop-less Inv-loop μ-loop
-loop-less c = search needs
-
 loop-again : tie.Need-loop-again Inv-loop μ-loop
 loop-again c =
     done-next _ (c .before .before .before .before .loop-test .taken) (rw (c .before .before .before .spread-element .ensures) at (c .select .ensures)) (c .before .before .before .before .before .loop .inv)
-
-same-length : tie.Need-same-length Inv-loop μ-loop
-same-length c = search needs
 
 returns : tie.Need-returns Inv-loop μ-loop
 returns c = done-all (c .loop-test .left) (c .before .loop .inv)
 
 pub select-into-spec : {M : Type 1} → statement M
 select-into-spec =
-    tie.close
-    (tie.spec
-    Inv-loop
-    μ-loop
-    loop-holds
-    spread-element-requires
-    mul-select
-    shared-slice-read-select
-    mul-select-2
-    shared-slice-read-select-2
-    select-requires
-    mul-out
-    slice-write-out
-    add-k
-    loop-less
-    loop-again
-    same-length
-    returns)
+    tie.close (tie.spec Inv-loop μ-loop loop-holds spread-element-requires (λ c. search needs) (λ c. search needs) (λ c. search needs)
+    (λ c. search needs) (λ c κs. search needs) (λ c. search needs) (λ c. search needs) (λ c. search needs) (λ c. search needs) loop-again
+    (λ c. search needs) returns)

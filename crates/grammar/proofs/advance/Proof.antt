@@ -19,23 +19,8 @@ abbrev μ-loop : tie.MeasureT-loop
 loop-holds : tie.Need-loop-holds Inv-loop μ-loop
 loop-holds c = (refl, sought-none _ _ _ (c .before .pre .1))
 
-slice-read-s : tie.Need-slice-read-s Inv-loop μ-loop
-slice-read-s c = search needs
-
-cell-at-requires : tie.Need-cell-at-requires Inv-loop μ-loop
-cell-at-requires c κs = search needs
-
-symbol-of-requires : tie.Need-symbol-of-requires Inv-loop μ-loop
-symbol-of-requires c κs = search needs
-
 add-push : tie.Need-add-push Inv-loop μ-loop
 add-push c = let n = ap length (c .before .before .before .before .before .before .loop .inv .0) in omega arith
-
-push-requires : tie.Need-push-requires Inv-loop μ-loop
-push-requires c κs = search needs
-
-same-length : tie.Need-same-length Inv-loop μ-loop
-same-length c = search needs
 
 returns : tie.Need-returns Inv-loop μ-loop
 returns c =
@@ -91,25 +76,5 @@ returns-4 c =
 
 pub advance-spec : {M : Type 1} → statement M
 advance-spec =
-    tie.close
-    (tie.spec
-    Inv-loop
-    μ-loop
-    loop-holds
-    slice-read-s
-    cell-at-requires
-    symbol-of-requires
-    add-push
-    push-requires
-    same-length
-    returns
-    add-t16
-    same-length-2
-    returns-2
-    same-length-3
-    returns-3
-    add-i
-    loop-less
-    loop-again
-    same-length-4
-    returns-4)
+    tie.close (tie.spec Inv-loop μ-loop loop-holds (λ c. search needs) (λ c κs. search needs) (λ c κs. search needs) add-push (λ c κs. search needs)
+    (λ c. search needs) returns add-t16 same-length-2 returns-2 same-length-3 returns-3 add-i loop-less loop-again same-length-4 returns-4)

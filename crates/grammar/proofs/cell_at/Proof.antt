@@ -9,15 +9,6 @@ use borrow.Author.Needs.{needs}
 use Rattle.grammar.proofs.cell_at.Statement.{statement}
 use Rattle.grammar.proofs.cell_at.Tie as tie
 
-mul-result : tie.Need-mul-result
-mul-result c = search needs
-
-add-result : tie.Need-add-result
-add-result c = search needs
-
-array-read-result : tie.Need-array-read-result
-array-read-result c = search needs
-
 returns : tie.Need-returns
 unfolding cells
 returns c = cell-right (c .before .before .args .s) (c .before .before .args .kind) (search needs) (search needs)
@@ -31,5 +22,4 @@ unfolding cell lettered
 returns-3 c = (simp (le-ltb _ _ (c .if1 .left)), search needs)
 
 pub cell-at-spec : {M : Type 1} → statement M
-cell-at-spec =
-    tie.close (tie.spec mul-result add-result array-read-result returns returns-2 returns-3)
+cell-at-spec = tie.close (tie.spec (λ c. search needs) (λ c. search needs) (λ c. search needs) returns returns-2 returns-3)

@@ -18,34 +18,16 @@ Inv-loop stack₀ top p k₀ i₀ stack k i = Partly (tailOf (rightOf p)) stack�
 abbrev μ-loop : tie.MeasureT-loop
 μ-loop stack₀ top p k₀ i₀ stack k i = k
 
-tail-length-requires : tie.Need-tail-length-requires Inv-loop μ-loop
-tail-length-requires c κs = search needs
-
-cast-k : tie.Need-cast-k Inv-loop μ-loop
-cast-k c = search needs
-
 loop-holds : tie.Need-loop-holds Inv-loop μ-loop
 loop-holds c = none-yet _ _ _ _ (c .tail-length .ensures)
 
-sub-k : tie.Need-sub-k Inv-loop μ-loop
-sub-k c = search needs
-
 sub-i : tie.Need-sub-i Inv-loop μ-loop
 sub-i c = omega (arith, tail-short (c .before .before .before .before .args .p) (search needs) (search needs))
-
-add-symbol-of : tie.Need-add-symbol-of Inv-loop μ-loop
-add-symbol-of c = search needs
 
 symbol-of-requires : tie.Need-symbol-of-requires Inv-loop μ-loop
 symbol-of-requires c κs =
     let t = tail-short (c .before .before .before .before .args .p) (search needs) (search needs) in
     search needs
-
-slice-write-stack : tie.Need-slice-write-stack Inv-loop μ-loop
-slice-write-stack c = search needs
-
-loop-less : tie.Need-loop-less Inv-loop μ-loop
-loop-less c = search needs
 
 loop-again : tie.Need-loop-again Inv-loop μ-loop
 loop-again c =
@@ -65,19 +47,5 @@ returns c =
 
 pub push-spec : {M : Type 1} → statement M
 push-spec =
-    tie.close
-    (tie.spec
-    Inv-loop
-    μ-loop
-    tail-length-requires
-    cast-k
-    loop-holds
-    sub-k
-    sub-i
-    add-symbol-of
-    symbol-of-requires
-    slice-write-stack
-    loop-less
-    loop-again
-    same-length
-    returns)
+    tie.close (tie.spec Inv-loop μ-loop (λ c κs. search needs) (λ c. search needs) loop-holds (λ c. search needs) sub-i (λ c. search needs)
+    symbol-of-requires (λ c. search needs) (λ c. search needs) loop-again same-length returns)

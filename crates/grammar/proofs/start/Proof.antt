@@ -9,12 +9,6 @@ use Rattle.grammar.proofs.StackLaw.{put-last}
 use Rattle.grammar.proofs.start.Statement.{statement}
 use Rattle.grammar.proofs.start.Tie as tie
 
-sub-top : tie.Need-sub-top
-sub-top c = search needs
-
-slice-write-stack : tie.Need-slice-write-stack
-slice-write-stack c = search needs
-
 same-length : tie.Need-same-length
 same-length c = simp length-set
 
@@ -25,4 +19,4 @@ returns c =
     record { place = omega arith; array = refl; expects = put-last l (length l - 1) _ n; size = simp length-set }
 
 pub start-spec : {M : Type 1} → statement M
-start-spec = tie.close (tie.spec sub-top slice-write-stack same-length returns)
+start-spec = tie.close (tie.spec (λ c. search needs) (λ c. search needs) same-length returns)

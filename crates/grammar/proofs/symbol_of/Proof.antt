@@ -9,18 +9,6 @@ use Rattle.grammar.proofs.TableRight.{symbolTest, symbol-right}
 use Rattle.grammar.proofs.symbol_of.Statement.{statement}
 use Rattle.grammar.proofs.symbol_of.Tie as tie
 
-sub-result : tie.Need-sub-result
-sub-result c = search needs
-
-mul-result : tie.Need-mul-result
-mul-result c = search needs
-
-add-result : tie.Need-add-result
-add-result c = search needs
-
-array-read-result : tie.Need-array-read-result
-array-read-result c = search needs
-
 sub-result-2 : tie.Need-sub-result-2
 unfolding symbolTest rightOf grammar
 sub-result-2 c = rw (symbol-right _ refl tt (c .args .p) (c .args .k) (omega arith) (omega arith) (omega arith)) (omega arith)
@@ -30,6 +18,4 @@ unfolding symbolTest rightOf grammar
 returns c = rw (symbol-right _ refl tt (c .args .p) (c .args .k) (omega arith) (omega arith) (omega arith)) (omega arith)
 
 pub symbol-of-spec : {M : Type 1} → statement M
-symbol-of-spec =
-    tie.close
-    (tie.spec sub-result mul-result add-result array-read-result sub-result-2 returns)
+symbol-of-spec = tie.close (tie.spec (λ c. search needs) (λ c. search needs) (λ c. search needs) (λ c. search needs) sub-result-2 returns)

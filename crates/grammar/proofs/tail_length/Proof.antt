@@ -9,12 +9,6 @@ use Rattle.grammar.proofs.TableRight.{lengthTest, length-right}
 use Rattle.grammar.proofs.tail_length.Statement.{statement}
 use Rattle.grammar.proofs.tail_length.Tie as tie
 
-sub-result : tie.Need-sub-result
-sub-result c = search needs
-
-array-read-result : tie.Need-array-read-result
-array-read-result c = search needs
-
 sub-result-2 : tie.Need-sub-result-2
 unfolding lengthTest rightOf grammar
 sub-result-2 c = rw (length-right _ refl tt (c .args .p) (omega arith) (omega arith)) (omega arith)
@@ -24,4 +18,4 @@ unfolding lengthTest rightOf grammar
 returns c = rw (length-right _ refl tt (c .args .p) (omega arith) (omega arith)) (omega arith)
 
 pub tail-length-spec : {M : Type 1} → statement M
-tail-length-spec = tie.close (tie.spec sub-result array-read-result sub-result-2 returns)
+tail-length-spec = tie.close (tie.spec (λ c. search needs) (λ c. search needs) sub-result-2 returns)

@@ -22,12 +22,6 @@ Inv-loop text stack₀ top₀ at₀ left₀ s₀ stack top at left s =
 abbrev μ-loop : tie.MeasureT-loop
 μ-loop text stack₀ top₀ at₀ left₀ s₀ stack top at left s = left
 
-start-requires : tie.Need-start-requires Inv-loop μ-loop
-start-requires c κs = search needs
-
-add-left : tie.Need-add-left Inv-loop μ-loop
-add-left c = search needs
-
 loop-holds : tie.Need-loop-holds Inv-loop μ-loop
 unfolding readings readingsOf
 loop-holds c =
@@ -121,4 +115,6 @@ returns-3 c =
     sym (ap (λ x. earliest (c .before .before .before .before .before .before .before .before .args .text .now) (l .s) x) (none-left (l .left) (drop (l .top) (l .stack)) _ (l .at) (omega arith))) ∙ l .inv .0
 
 pub earliest-refusal-spec : {M : Type 1} → statement M
-earliest-refusal-spec = tie.close (tie.spec Inv-loop μ-loop start-requires add-left loop-holds same-length returns read-token-requires refusal-at-requires same-length-2 returns-2 after-token-requires sub-left loop-less loop-again same-length-3 returns-3)
+earliest-refusal-spec =
+    tie.close (tie.spec Inv-loop μ-loop (λ c κs. search needs) (λ c. search needs) loop-holds same-length returns read-token-requires
+    refusal-at-requires same-length-2 returns-2 after-token-requires sub-left loop-less loop-again same-length-3 returns-3)

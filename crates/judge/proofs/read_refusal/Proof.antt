@@ -12,9 +12,6 @@ returns : tie.Need-returns
 unfolding textRefusal
 returns c = simp (lt-ltb _ _ (c .if1 .taken))
 
-slice-aggregate-earliest-refusal : tie.Need-slice-aggregate-earliest-refusal
-slice-aggregate-earliest-refusal c = search needs
-
 earliest-refusal-requires : tie.Need-earliest-refusal-requires
 earliest-refusal-requires c κs = (search needs, length-replicate {A = ℕ} 655380 0)
 
@@ -23,4 +20,4 @@ unfolding textRefusal
 returns-2 c = simp (← c .before .earliest-refusal .ensures, le-ltb _ _ (c .before .before .before .if1 .left))
 
 pub read-refusal-spec : {M : Type 1} → statement M
-read-refusal-spec = tie.close (tie.spec returns slice-aggregate-earliest-refusal earliest-refusal-requires returns-2)
+read-refusal-spec = tie.close (tie.spec returns (λ c. search needs) earliest-refusal-requires returns-2)

@@ -10,15 +10,9 @@ returns : tie.Need-returns
 unfolding refusalAt
 returns c = simp (c .if1 .taken)
 
-is-unknown-requires : tie.Need-is-unknown-requires
-is-unknown-requires c κs = search needs
-
 returns-2 : tie.Need-returns-2
 unfolding refusalAt
 returns-2 c = simp (c .before .before .if1 .left, ← c .before .is-unknown .ensures, c .if2 .taken)
-
-size-passed-requires : tie.Need-size-passed-requires
-size-passed-requires c κs = search needs
 
 returns-3 : tie.Need-returns-3
 unfolding refusalAt
@@ -29,4 +23,4 @@ unfolding refusalAt
 returns-4 c = simp (c .before .before .before .before .if1 .left, ← c .before .before .before .is-unknown .ensures, c .before .before .if2 .left, ← c .before .size-passed .ensures, ne-eqb _ _ (c .if3 .left))
 
 pub refusal-at-spec : {M : Type 1} → statement M
-refusal-at-spec = tie.close (tie.spec returns is-unknown-requires returns-2 size-passed-requires returns-3 returns-4)
+refusal-at-spec = tie.close (tie.spec returns (λ c κs. search needs) returns-2 (λ c κs. search needs) returns-3 returns-4)

@@ -19,15 +19,5 @@ returns c =
 
 pub input-names-spec : {M : Type 1} → statement M
 input-names-spec =
-    tie.close
-    (tie.spec
-    (λ c. search needs)
-    (λ c. search needs)
-    (λ c. search needs)
-    (λ c. search needs)
-    (λ c. search needs)
-    part-inputs-in-end
-    (λ c κs. search needs)
-    (λ c κs. search needs)
-    (λ c. search needs)
-    returns)
+    tie.close (tie.spec (λ c. search needs) (λ c. search needs) (λ c. search needs) (λ c. search needs) (λ c. search needs) part-inputs-in-end
+    (λ c κs. search needs) (λ c κs. search needs) (λ c. search needs) returns)

@@ -46,18 +46,5 @@ returns c =
 
 pub lay-names-spec : {M : Type 1} → statement M
 lay-names-spec =
-    tie.close
-    (tie.spec
-    Inv-loop
-    μ-loop
-    loop-holds
-    (λ c. search needs)
-    (λ c. search needs)
-    sub-top
-    mul-entries
-    slice-write-entries
-    (λ c. search needs)
-    (λ c. search needs)
-    loop-again
-    same-length
-    returns)
+    tie.close (tie.spec Inv-loop μ-loop loop-holds (λ c. search needs) (λ c. search needs) sub-top mul-entries slice-write-entries (λ c. search needs)
+    (λ c. search needs) loop-again same-length returns)

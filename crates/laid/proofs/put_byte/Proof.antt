@@ -13,5 +13,4 @@ unfolding put
 returns-2 c = simp (le-ltb _ _ (c .if1 .left))
 
 pub put-byte-spec : {M : Type 1} → statement M
-put-byte-spec = tie.close (tie.spec
-    (λ c. search needs) (λ c. search needs) (λ c. search needs) returns returns-2)
+put-byte-spec = tie.close (tie.spec (λ c. search needs) (λ c. search needs) (λ c. search needs) returns returns-2)

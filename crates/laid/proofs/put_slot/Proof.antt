@@ -13,6 +13,4 @@ unfolding put
 returns-2 c = simp (le-ltb _ _ (c .if1 .left))
 
 pub put-slot-spec : {M : Type 1} → statement M
-put-slot-spec =
-    tie.close (tie.spec
-    (λ c. search needs) (λ c. search needs) (λ c. search needs) (λ c. search needs) returns returns-2)
+put-slot-spec = tie.close (tie.spec (λ c. search needs) (λ c. search needs) (λ c. search needs) (λ c. search needs) returns returns-2)

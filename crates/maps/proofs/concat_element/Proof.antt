@@ -129,29 +129,6 @@ returns-2 c =
 
 pub concat-element-spec : {M : Type 1} → statement M
 concat-element-spec =
-    tie.close
-    (tie.spec
-    Inv-loop
-    μ-loop
-    (λ c. search needs)
-    (λ c. search needs)
-    loop-holds
-    mul-s
-    array-copy-out-s
-    size-along-requires
-    mul-p
-    array-read-p
-    size-of-requires
-    add-e
-    (λ c. search needs)
-    (λ c. search needs)
-    mul-element-at
-    sub-element-at
-    part-element-at-start
-    part-element-at-end
-    element-at-requires
-    returns
-    (λ c. search needs)
-    (λ c. search needs)
-    loop-again
-    returns-2)
+    tie.close (tie.spec Inv-loop μ-loop (λ c. search needs) (λ c. search needs) loop-holds mul-s array-copy-out-s size-along-requires mul-p
+    array-read-p size-of-requires add-e (λ c. search needs) (λ c. search needs) mul-element-at sub-element-at part-element-at-start
+    part-element-at-end element-at-requires returns (λ c. search needs) (λ c. search needs) loop-again returns-2)

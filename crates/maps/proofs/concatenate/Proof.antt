@@ -66,16 +66,5 @@ returns c =
 
 pub concatenate-spec : {M : Type 1} → statement M
 concatenate-spec =
-    tie.close
-    (tie.spec
-    Inv-loop
-    μ-loop
-    loop-holds
-    concat-at-requires
-    mul-out
-    slice-write-out
-    (λ c. search needs)
-    (λ c. search needs)
-    loop-again
-    same-length
-    returns)
+    tie.close (tie.spec Inv-loop μ-loop loop-holds concat-at-requires mul-out slice-write-out (λ c. search needs) (λ c. search needs) loop-again
+    same-length returns)

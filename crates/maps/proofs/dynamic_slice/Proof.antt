@@ -50,5 +50,4 @@ returns c =
     ∙ adjusted-sliced (a .t) (a .starts) (dimsOf (a .from)) (dimsOf (a .to)) (few s) (a .from .rank) (now (a .x)) (dims-le (a .from .rank) (a .from .dims))
 
 pub dynamic-slice-spec : {M : Type 1} → statement M
-dynamic-slice-spec =
-    tie.close (tie.spec (λ c κs. search needs) map-into-requires (λ c. search needs) returns)
+dynamic-slice-spec = tie.close (tie.spec (λ c κs. search needs) map-into-requires (λ c. search needs) returns)

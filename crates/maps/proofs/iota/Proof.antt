@@ -68,16 +68,5 @@ returns c =
 
 pub iota-spec : {M : Type 1} → statement M
 iota-spec =
-    tie.close
-    (tie.spec
-    Inv-loop
-    μ-loop
-    loop-holds
-    iota-element-requires
-    mul-out
-    slice-write-out
-    (λ c. search needs)
-    (λ c. search needs)
-    loop-again
-    same-length
-    returns)
+    tie.close (tie.spec Inv-loop μ-loop loop-holds iota-element-requires mul-out slice-write-out (λ c. search needs) (λ c. search needs) loop-again
+    same-length returns)

@@ -16,6 +16,4 @@ returns c =
     ∙ ap (λ (i : ℕ → ℕ). wrapTo (a .t) (pos (i (a .dimension)))) (ap at (c .before .index-at .ensures) ∙ at-six (unravel (dimsOf (a .to)) (a .k)))
 
 pub iota-element-spec : {M : Type 1} → statement M
-iota-element-spec =
-    tie.close
-    (tie.spec (λ c κs. search needs) (λ c. search needs) (λ c. search needs) (λ c κs. search needs) returns)
+iota-element-spec = tie.close (tie.spec (λ c κs. search needs) (λ c. search needs) (λ c. search needs) (λ c κs. search needs) returns)

@@ -32,5 +32,4 @@ returns c =
     ∙ ap (λ (i : ℕ → ℕ). elementAt (now (a .x)) (dimsOf (a .from)) (operandIndex (a .m) (dimsOf (a .from)) i) (a .z)) (seen (c .before .before))
 
 pub map-element-spec : {M : Type 1} → statement M
-map-element-spec =
-    tie.close (tie.spec (λ c κs. search needs) operand-index-requires (λ c κs. search needs) returns)
+map-element-spec = tie.close (tie.spec (λ c κs. search needs) operand-index-requires (λ c κs. search needs) returns)

@@ -64,16 +64,5 @@ returns c =
 
 pub map-into-spec : {M : Type 1} → statement M
 map-into-spec =
-    tie.close
-    (tie.spec
-    Inv-loop
-    μ-loop
-    loop-holds
-    map-element-requires
-    mul-out
-    slice-write-out
-    (λ c. search needs)
-    (λ c. search needs)
-    loop-again
-    same-length
-    returns)
+    tie.close (tie.spec Inv-loop μ-loop loop-holds map-element-requires mul-out slice-write-out (λ c. search needs) (λ c. search needs) loop-again
+    same-length returns)

@@ -69,17 +69,5 @@ returns c =
 
 pub reshape-spec : {M : Type 1} → statement M
 reshape-spec =
-    tie.close
-    (tie.spec
-    Inv-loop
-    μ-loop
-    loop-holds
-    mul-out
-    shared-slice-read-out
-    mul-out-2
-    slice-write-out
-    (λ c. search needs)
-    (λ c. search needs)
-    loop-again
-    same-length
-    returns)
+    tie.close (tie.spec Inv-loop μ-loop loop-holds mul-out shared-slice-read-out mul-out-2 slice-write-out (λ c. search needs) (λ c. search needs)
+    loop-again same-length returns)

@@ -23,5 +23,4 @@ returns-2 c =
     simp (le-ltb (placeIn (take (a .count) (a .dimensions)) (a .d)) (length (take (a .count) (a .dimensions))) (omega arith))
 
 pub reverse-coordinate-spec : {M : Type 1} → statement M
-reverse-coordinate-spec =
-    tie.close (tie.spec (λ c κs. search needs) (λ c. search needs) (λ c. search needs) returns returns-2)
+reverse-coordinate-spec = tie.close (tie.spec (λ c κs. search needs) (λ c. search needs) (λ c. search needs) returns returns-2)

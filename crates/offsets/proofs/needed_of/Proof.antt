@@ -39,4 +39,5 @@ returns c =
 
 pub needed-of-spec : {M : Type 1} → statement M
 needed-of-spec =
-    tie.close (tie.spec Inv-loop μ-loop loop-holds (λ c κs. (omega (arith, c .before .before .pre .few), c .before .before .pre)) add-at (λ c. search needs) (λ c. search needs) loop-again returns)
+    tie.close (tie.spec Inv-loop μ-loop loop-holds (λ c κs. (omega (arith, c .before .before .pre .few), c .before .before .pre)) add-at
+    (λ c. search needs) (λ c. search needs) loop-again returns)

@@ -17,19 +17,10 @@ abbrev μ-loop : tie.MeasureT-loop
 loop-holds : tie.Need-loop-holds Inv-loop μ-loop
 loop-holds c = (omega arith, reach-none (c .args .o .arity) (takenAt (c .args .row) (c .args .o)))
 
-taken-at-requires : tie.Need-taken-at-requires Inv-loop μ-loop
-taken-at-requires c κs = search needs
-
 returns : tie.Need-returns Inv-loop μ-loop
 returns c =
     let s = c .before .before .before .before in
     reach-here (s .args .o .arity) (takenAt (s .args .row) (s .args .o)) (c .before .before .before .loop .j) (c .before .before .before .loop .inv .1) (omega arith) (sym (c .before .taken-at .ensures) ∙ not-true _ (c .if1 .taken))
-
-add-j : tie.Need-add-j Inv-loop μ-loop
-add-j c = search needs
-
-loop-less : tie.Need-loop-less Inv-loop μ-loop
-loop-less c = search needs
 
 loop-again : tie.Need-loop-again Inv-loop μ-loop
 loop-again c =
@@ -43,14 +34,4 @@ returns-2 c =
 
 pub first-untaken-spec : {M : Type 1} → statement M
 first-untaken-spec =
-    tie.close
-    (tie.spec
-    Inv-loop
-    μ-loop
-    loop-holds
-    taken-at-requires
-    returns
-    add-j
-    loop-less
-    loop-again
-    returns-2)
+    tie.close (tie.spec Inv-loop μ-loop loop-holds (λ c κs. search needs) returns (λ c. search needs) (λ c. search needs) loop-again returns-2)

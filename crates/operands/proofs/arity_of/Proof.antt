@@ -2,20 +2,14 @@ use Rattle.operands.specs.Operands.{arityOf}
 use borrow.Author.Needs.{needs}
 use Rattle.operands.proofs.arity_of.Statement.{statement}
 use Rattle.operands.proofs.arity_of.Tie as tie
-use Rattle.operands.proofs.arity_of.Reads as reads
-use Rattle.operands.proofs.arity_of.Lts as lts
-use Rattle.places.proofs.count_of.Reads as count-of-reads
 
--- src/lib.rt:49:1
 returns : tie.Need-returns
 unfolding arityOf
 returns c = search needs
 
--- src/lib.rt:49:1
 returns-2 : tie.Need-returns-2
 unfolding arityOf
 returns-2 c = search needs
 
 pub arity-of-spec : {M : Type 1} → statement M
-arity-of-spec = tie.close (tie.spec
-    (λ c κs. search needs) returns returns-2)
+arity-of-spec = tie.close (tie.spec (λ c κs. search needs) returns returns-2)

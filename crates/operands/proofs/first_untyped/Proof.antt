@@ -46,5 +46,6 @@ returns-2 c =
     v .0 ∙ reach-end (arityOf (a .op)) (operandTyped (a .text .now) (a .op) (a .values .list) (a .n)) (c .before .loop .j) (v .2) (rw (← v .0) (c .loop-test .left)) (rw (← v .0) (v .1))
 
 pub first-untyped-spec : {M : Type 1} → statement M
-first-untyped-spec = tie.close (tie.spec
-    Inv-loop μ-loop (λ c κs. search needs) loop-holds operand-typed-requires returns (λ c. search needs) (λ c. search needs) loop-again returns-2)
+first-untyped-spec =
+    tie.close (tie.spec Inv-loop μ-loop (λ c κs. search needs) loop-holds operand-typed-requires returns (λ c. search needs) (λ c. search needs)
+    loop-again returns-2)

@@ -5,24 +5,16 @@ use borrow.Author.Tests.{lt-ltb}
 use Rattle.values.specs.Values.{noValue}
 use Rattle.values.proofs.Value.{the-type}
 use Rattle.values.proofs.ValuesLaw.{any-default}
-use Rattle.bodies.proofs.BodiesLaw.{part-sized}
+use Rattle.places.proofs.TypeInLaw.{part-sized}
 use borrow.Author.Tests.{le-ltb}
 use Rattle.operands.specs.Operands.{operandTyped}
 use borrow.Author.Needs.{needs}
 use Rattle.operands.proofs.operand_typed.Statement.{statement}
 use Rattle.operands.proofs.operand_typed.Tie as tie
-use Rattle.operands.proofs.operand_typed.Reads as reads
-use Rattle.operands.proofs.operand_typed.Lts as lts
-use Rattle.dimrules.proofs.same_type.Reads as same-type-reads
-use Rattle.places.proofs.place_of.Reads as place-of-reads
-use Rattle.places.proofs.type_of.Reads as type-of-reads
-use Rattle.operands.proofs.value_named.Reads as value-named-reads
 
--- src/lib.rt:67:9
 same-type-requires : tie.Need-same-type-requires
 same-type-requires c κs = rw (c .before .before .before .before .type-of .ensures) (part-sized _ _ _ _)
 
--- src/lib.rt:67:9
 returns : tie.Need-returns
 unfolding operandTyped
 returns c =
@@ -33,13 +25,11 @@ returns c =
     let q : getD (s .args .values .list) i noValue ≡ getD (s .args .values .list) i _ = any-default (s .args .values .list) i noValue _ (omega (arith, h, s .pre .0, long)) in
     rw (← c .before .before .before .before .before .before .before .place-of .ensures, ← c .before .before .before .before .before .before .value-named .ensures, lt-ltb _ _ h, ← c .before .before .before .before .before .type-of .ensures, q) (c .same-type .ensures)
 
--- src/lib.rt:57:1
 returns-2 : tie.Need-returns-2
 unfolding operandTyped
 returns-2 c = simp (le-ltb _ _ (c .if1 .left), ← c .before .type-of .ensures, ← c .before .before .value-named .ensures, ← c .before .before .before .place-of .ensures)
 
 pub operand-typed-spec : {M : Type 1} → statement M
 operand-typed-spec =
-    tie.close
-    (tie.spec
-    (λ c κs. search needs) (λ c κs. search needs) (λ c κs. search needs) (λ c. search needs) (λ c. search needs) same-type-requires returns returns-2)
+    tie.close (tie.spec (λ c κs. search needs) (λ c κs. search needs) (λ c κs. search needs) (λ c. search needs) (λ c. search needs)
+    same-type-requires returns returns-2)

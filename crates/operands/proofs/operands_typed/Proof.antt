@@ -4,14 +4,7 @@ use Rattle.operands.proofs.OperandsLaw.{both-first}
 use borrow.Author.Needs.{needs}
 use Rattle.operands.proofs.operands_typed.Statement.{statement}
 use Rattle.operands.proofs.operands_typed.Tie as tie
-use Rattle.operands.proofs.operands_typed.Reads as reads
-use Rattle.operands.proofs.operands_typed.Lts as lts
-use Rattle.dimrules.proofs.both.Reads as both-reads
-use Rattle.places.proofs.count_of.Reads as count-of-reads
-use Rattle.operands.proofs.arity_of.Reads as arity-of-reads
-use Rattle.operands.proofs.first_untyped.Reads as first-untyped-reads
 
--- src/lib.rt:86:1
 returns : tie.Need-returns
 unfolding operandsTyped
 returns c =
@@ -21,6 +14,5 @@ returns c =
 
 pub operands-typed-spec : {M : Type 1} → statement M
 operands-typed-spec =
-    tie.close
-    (tie.spec
-    (λ c κs. search needs) (λ c κs. search needs) (λ c κs. search needs) (λ c κs. search needs) (λ c κs. search needs) (λ c κs. search needs) returns)
+    tie.close (tie.spec (λ c κs. search needs) (λ c κs. search needs) (λ c κs. search needs) (λ c κs. search needs) (λ c κs. search needs)
+    (λ c κs. search needs) returns)

@@ -10,9 +10,6 @@ use borrow.Author.Needs.{needs}
 use Rattle.operands.proofs.OperandsLaw.{Sought, seek-none, seek-next, seek-here, seek-end}
 use Rattle.operands.proofs.value_named.Statement.{statement}
 use Rattle.operands.proofs.value_named.Tie as tie
-use Rattle.operands.proofs.value_named.Reads as reads
-use Rattle.operands.proofs.value_named.Lts as lts
-use Rattle.scope.proofs.same_at.Reads as same-at-reads
 
 abbrev Inv-loop : tie.InvT-loop
 Inv-loop text n a list i₀ i = (i ≤ n) × Sought text list n a i
@@ -20,11 +17,9 @@ Inv-loop text n a list i₀ i = (i ≤ n) × Sought text list n a i
 abbrev μ-loop : tie.MeasureT-loop
 μ-loop text n a list i₀ i = n - i
 
--- src/lib.rt:40:5
 loop-holds : tie.Need-loop-holds Inv-loop μ-loop
 loop-holds c = let a = c .before .before .args in (omega arith, seek-none (a .text .now) (a .values .list) (a .n) (a .a))
 
--- src/lib.rt:43:13
 returns : tie.Need-returns Inv-loop μ-loop
 returns c =
     let a = c .before .before .before .before .before .before .before .args in
@@ -32,7 +27,6 @@ returns c =
     seek-here (a .text .now) (a .values .list) (a .n) (a .a) i (c .before .before .before .before .loop .inv .1) (omega arith)
     (rw (name-any (a .values .list) i noValue _ refl) (sym (c .before .same-at .ensures) ∙ c .if1 .taken))
 
--- src/lib.rt:40:5
 loop-again : tie.Need-loop-again Inv-loop μ-loop
 loop-again c =
     let a = c .before .before .before .before .before .before .before .args in
@@ -42,7 +36,6 @@ loop-again c =
           (rw (name-any (a .values .list) i noValue _ refl) (sym (c .before .same-at .ensures) ∙ c .if1 .left)),
     )
 
--- src/lib.rt:35:1
 returns-2 : tie.Need-returns-2 Inv-loop μ-loop
 returns-2 c =
     let a = c .before .before .before .before .args in
@@ -50,7 +43,5 @@ returns-2 c =
 
 pub value-named-spec : {M : Type 1} → statement M
 value-named-spec =
-    tie.close
-    (tie.spec
-    Inv-loop μ-loop loop-holds (λ c. search needs) (λ c. search needs) (λ c κs. search needs) returns (λ c. search needs) (λ c. search needs) loop-again
-    returns-2)
+    tie.close (tie.spec Inv-loop μ-loop loop-holds (λ c. search needs) (λ c. search needs) (λ c κs. search needs) returns (λ c. search needs)
+    (λ c. search needs) loop-again returns-2)

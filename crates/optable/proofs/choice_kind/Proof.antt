@@ -5,12 +5,6 @@ use borrow.Author.Needs.{needs}
 use Rattle.optable.proofs.choice_kind.Statement.{statement}
 use Rattle.optable.proofs.choice_kind.Tie as tie
 
-mul-result : tie.Need-mul-result
-mul-result c = search needs
-
-array-read-result : tie.Need-array-read-result
-array-read-result c = search needs
-
 returns : tie.Need-returns
 unfolding choiceKind choices
 returns c = refl
@@ -19,4 +13,4 @@ returns-2 : tie.Need-returns-2
 returns-2 c = sym (choice-past _ (c .if1 .left))
 
 pub choice-kind-spec : {M : Type 1} → statement M
-choice-kind-spec = tie.close (tie.spec mul-result array-read-result returns returns-2)
+choice-kind-spec = tie.close (tie.spec (λ c. search needs) (λ c. search needs) returns returns-2)

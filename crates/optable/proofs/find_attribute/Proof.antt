@@ -4,12 +4,9 @@ use borrow.Author.Needs.{needs}
 use Rattle.optable.proofs.find_attribute.Statement.{statement}
 use Rattle.optable.proofs.find_attribute.Tie as tie
 
-find-requires : tie.Need-find-requires
-find-requires c κs = search needs
-
 returns : tie.Need-returns
 unfolding findAttribute names opNames attributeNames choiceKindNames choiceNames ops attributes choiceKinds choices
 returns c = c .find .ensures
 
 pub find-attribute-spec : {M : Type 1} → statement M
-find-attribute-spec = tie.close (tie.spec find-requires returns)
+find-attribute-spec = tie.close (tie.spec (λ c κs. search needs) returns)

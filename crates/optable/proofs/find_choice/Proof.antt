@@ -4,12 +4,9 @@ use borrow.Author.Needs.{needs}
 use Rattle.optable.proofs.find_choice.Statement.{statement}
 use Rattle.optable.proofs.find_choice.Tie as tie
 
-find-requires : tie.Need-find-requires
-find-requires c κs = search needs
-
 returns : tie.Need-returns
 unfolding findChoice names opNames attributeNames choiceKindNames choiceNames ops attributes choiceKinds choices
 returns c = c .find .ensures
 
 pub find-choice-spec : {M : Type 1} → statement M
-find-choice-spec = tie.close (tie.spec find-requires returns)
+find-choice-spec = tie.close (tie.spec (λ c κs. search needs) returns)

@@ -4,12 +4,9 @@ use borrow.Author.Needs.{needs}
 use Rattle.optable.proofs.find_op.Statement.{statement}
 use Rattle.optable.proofs.find_op.Tie as tie
 
-find-requires : tie.Need-find-requires
-find-requires c κs = search needs
-
 returns : tie.Need-returns
 unfolding findOp names opNames attributeNames choiceKindNames choiceNames ops attributes choiceKinds choices
 returns c = c .find .ensures
 
 pub find-op-spec : {M : Type 1} → statement M
-find-op-spec = tie.close (tie.spec find-requires returns)
+find-op-spec = tie.close (tie.spec (λ c κs. search needs) returns)

@@ -4,9 +4,6 @@ use borrow.Author.Needs.{needs}
 use Rattle.optable.proofs.op_row.Statement.{statement}
 use Rattle.optable.proofs.op_row.Tie as tie
 
-entry-at-requires : tie.Need-entry-at-requires
-entry-at-requires c κs = search needs
-
 takes-of-requires : tie.Need-takes-of-requires
 takes-of-requires c κs = first-small _ _ (c .entry-at .ensures)
 
@@ -22,21 +19,10 @@ rule-of-requires c κs = rule-in _ _ (c .before .before .before .entry-at .ensur
 returns : tie.Need-returns
 returns c = row-back _ _ (c .before .before .before .before .before .before .entry-at .ensures) _ _ _ _ (c .before .before .before .before .before .takes-of .ensures) (c .before .before .before .before .takes-of2 .ensures) (c .before .before .before .takes-of3 .ensures) (c .before .before .rule-of .ensures)
 
-no-row-requires : tie.Need-no-row-requires
-no-row-requires c κs = search needs
-
 returns-2 : tie.Need-returns-2
 returns-2 c = c .no-row .ensures ∙ sym (row-past _ (c .before .if1 .left))
 
 pub op-row-spec : {M : Type 1} → statement M
 op-row-spec =
-    tie.close
-    (tie.spec
-    entry-at-requires
-    takes-of-requires
-    takes-of-requires-2
-    takes-of-requires-3
-    rule-of-requires
-    returns
-    no-row-requires
-    returns-2)
+    tie.close (tie.spec (λ c κs. search needs) takes-of-requires takes-of-requires-2 takes-of-requires-3 rule-of-requires returns
+    (λ c κs. search needs) returns-2)

@@ -4,18 +4,9 @@ use borrow.Author.Needs.{needs}
 use Rattle.optable.proofs.operand_taken.Statement.{statement}
 use Rattle.optable.proofs.operand_taken.Tie as tie
 
-is-taken-requires : tie.Need-is-taken-requires
-is-taken-requires c κs = search needs
-
 returns : tie.Need-returns
 unfolding operandTaken
 returns c = simp (← c .is-taken .ensures, eq-eqb _ _ (c .before .if1 .taken))
-
-is-taken-requires-2 : tie.Need-is-taken-requires-2
-is-taken-requires-2 c κs = search needs
-
-fits-rank-requires : tie.Need-fits-rank-requires
-fits-rank-requires c κs = search needs
 
 returns-2 : tie.Need-returns-2
 unfolding operandTaken
@@ -26,6 +17,4 @@ unfolding operandTaken
 returns-3 c = simp (c .if2 .left, ← c .before .is-taken2 .ensures, ne-eqb _ _ (c .before .before .if1 .left))
 
 pub operand-taken-spec : {M : Type 1} → statement M
-operand-taken-spec =
-    tie.close
-    (tie.spec is-taken-requires returns is-taken-requires-2 fits-rank-requires returns-2 returns-3)
+operand-taken-spec = tie.close (tie.spec (λ c κs. search needs) returns (λ c κs. search needs) (λ c κs. search needs) returns-2 returns-3)

@@ -5,15 +5,9 @@ use borrow.Author.Needs.{needs}
 use Rattle.optable.proofs.other_at.Statement.{statement}
 use Rattle.optable.proofs.other_at.Tie as tie
 
-mul-result : tie.Need-mul-result
-mul-result c = search needs
-
-array-copy-out-result : tie.Need-array-copy-out-result
-array-copy-out-result c = search needs
-
 returns : tie.Need-returns
 unfolding names opNames attributeNames choiceKindNames choiceNames ops attributes choiceKinds choices
 returns c = sym (others-places _)
 
 pub other-at-spec : {M : Type 1} → statement M
-other-at-spec = tie.close (tie.spec mul-result array-copy-out-result returns)
+other-at-spec = tie.close (tie.spec (λ c. search needs) (λ c. search needs) returns)

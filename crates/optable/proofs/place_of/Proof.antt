@@ -19,23 +19,11 @@ abbrev μ-loop : tie.MeasureT-loop
 loop-holds : tie.Need-loop-holds Inv-loop μ-loop
 loop-holds c = (search needs, zero-add _)
 
-add-word-at : tie.Need-add-word-at Inv-loop μ-loop
-add-word-at c = search needs
-
-word-at-requires : tie.Need-word-at-requires Inv-loop μ-loop
-word-at-requires c κs = search needs
-
 word-is-requires : tie.Need-word-is-requires Inv-loop μ-loop
 word-is-requires c κs = rw (c .word-at .ensures) (word-within _ (search needs))
 
 returns : tie.Need-returns Inv-loop μ-loop
 returns c = name-here _ _ _ (c .before .before .before .before .before .before .pre) _ (c .before .before .before .before .loop .inv .1) (c .before .before .before .loop-test .taken) _ (c .before .before .word-at .ensures) _ (c .before .word-is .ensures) (c .if1 .taken)
-
-add-k : tie.Need-add-k Inv-loop μ-loop
-add-k c = search needs
-
-loop-less : tie.Need-loop-less Inv-loop μ-loop
-loop-less c = search needs
 
 loop-again : tie.Need-loop-again Inv-loop μ-loop
 loop-again c = (search needs, name-next _ _ _ (c .before .before .before .before .before .before .pre) _ (c .before .before .before .before .loop .inv .1) (c .before .before .before .loop-test .taken) _ (c .before .before .word-at .ensures) _ (c .before .word-is .ensures) (c .if1 .left))
@@ -45,16 +33,5 @@ returns-2 c = name-none _ _ _ (c .before .before .before .pre) _ (c .before .loo
 
 pub place-of-spec : {M : Type 1} → statement M
 place-of-spec =
-    tie.close
-    (tie.spec
-    Inv-loop
-    μ-loop
-    loop-holds
-    add-word-at
-    word-at-requires
-    word-is-requires
-    returns
-    add-k
-    loop-less
-    loop-again
-    returns-2)
+    tie.close (tie.spec Inv-loop μ-loop loop-holds (λ c. search needs) (λ c κs. search needs) word-is-requires returns (λ c. search needs)
+    (λ c. search needs) loop-again returns-2)

@@ -7,18 +7,12 @@ use borrow.Author.Needs.{needs}
 use Rattle.optable.proofs.word_at.Statement.{statement}
 use Rattle.optable.proofs.word_at.Tie as tie
 
-op-row-requires : tie.Need-op-row-requires
-op-row-requires c κs = search needs
-
 returns : tie.Need-returns
 returns c = let e = c .op-row .ensures in
     rw e (sym (row-place _ (c .before .if1 .taken)))
-
-other-at-requires : tie.Need-other-at-requires
-other-at-requires c κs = search needs
 
 returns-2 : tie.Need-returns-2
 returns-2 c = c .other-at .ensures ∙ ap wordAt (let e : 34 + (c .before .before .args .i - 34) ≡ c .before .before .args .i = omega arith in e)
 
 pub word-at-spec : {M : Type 1} → statement M
-word-at-spec = tie.close (tie.spec op-row-requires returns other-at-requires returns-2)
+word-at-spec = tie.close (tie.spec (λ c κs. search needs) returns (λ c κs. search needs) returns-2)

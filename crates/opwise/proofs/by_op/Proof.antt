@@ -5,15 +5,11 @@ use Rattle.opwise.specs.Opwise.{byOp}
 use borrow.Author.Needs.{needs}
 use Rattle.opwise.proofs.by_op.Statement.{statement}
 use Rattle.opwise.proofs.by_op.Tie as tie
-use Rattle.opwise.proofs.by_op.Reads as reads
-use Rattle.opwise.proofs.by_op.Lts as lts
 
--- src/lib.rt:41:9
 returns : tie.Need-returns
 unfolding byOp
 returns c = simp (eq-eqb _ _ (c .if1 .taken))
 
--- src/lib.rt:37:1
 returns-2 : tie.Need-returns-2
 unfolding byOp
 returns-2 c = simp (ne-eqb _ _ (c .if1 .left))

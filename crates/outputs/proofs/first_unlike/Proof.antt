@@ -18,9 +18,6 @@ Inv-loop text op header arity j₀ j = (arity ≡ arityOf op) × (j ≤ arity) �
 abbrev μ-loop : tie.MeasureT-loop
 μ-loop text op header arity j₀ j = arity - j
 
-arity-of-requires : tie.Need-arity-of-requires Inv-loop μ-loop
-arity-of-requires c κs = search needs
-
 loop-holds : tie.Need-loop-holds Inv-loop μ-loop
 loop-holds c =
     let a = c .before .before .args in
@@ -36,12 +33,6 @@ returns c =
     let h = c .before .before .loop-test .taken in
     reach-here (arityOf (a .op)) (returnedAt (a .text .now) (a .op) (a .header)) (c .before .before .before .loop .j) (v .2) (rw (← v .0) h) (sym (c .before .returned-at .ensures) ∙ not-true _ (c .if1 .taken))
 
-add-j : tie.Need-add-j Inv-loop μ-loop
-add-j c = search needs
-
-loop-less : tie.Need-loop-less Inv-loop μ-loop
-loop-less c = search needs
-
 loop-again : tie.Need-loop-again Inv-loop μ-loop
 loop-again c =
     let v = c .before .before .before .loop .inv in
@@ -56,4 +47,6 @@ returns-2 c =
     v .0 ∙ reach-end (arityOf (a .op)) (returnedAt (a .text .now) (a .op) (a .header)) (c .before .loop .j) (v .2) (rw (← v .0) (c .loop-test .left)) (rw (← v .0) (v .1))
 
 pub first-unlike-spec : {M : Type 1} → statement M
-first-unlike-spec = tie.close (tie.spec Inv-loop μ-loop arity-of-requires loop-holds returned-at-requires returns add-j loop-less loop-again returns-2)
+first-unlike-spec =
+    tie.close (tie.spec Inv-loop μ-loop (λ c κs. search needs) loop-holds returned-at-requires returns (λ c. search needs) (λ c. search needs)
+    loop-again returns-2)

@@ -32,7 +32,5 @@ returns c =
 
 pub print-dense-spec : {M : Type 1} → statement M
 print-dense-spec =
-    tie.close
-    (tie.spec
-    (λ c. search needs) (λ c κs. search needs) put-lists-requires (λ c. search needs) (λ c κs. search needs) (λ c κs. search needs) (λ c κs. search needs)
-    (λ c. search needs) (λ c κs. search needs) (λ c. search needs) returns)
+    tie.close (tie.spec (λ c. search needs) (λ c κs. search needs) put-lists-requires (λ c. search needs) (λ c κs. search needs)
+    (λ c κs. search needs) (λ c κs. search needs) (λ c. search needs) (λ c κs. search needs) (λ c. search needs) returns)

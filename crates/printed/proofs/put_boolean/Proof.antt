@@ -11,6 +11,5 @@ returns-2 c = rw (ne-eqb _ _ (c .before .before .before .before .before .if1 .le
 
 pub put-boolean-spec : {M : Type 1} → statement M
 put-boolean-spec =
-    tie.close
-    (tie.spec
-    (λ c. search needs) (λ c κs. search needs) (λ c. search needs) returns (λ c. search needs) (λ c κs. search needs) (λ c. search needs) returns-2)
+    tie.close (tie.spec (λ c. search needs) (λ c κs. search needs) (λ c. search needs) returns (λ c. search needs) (λ c κs. search needs)
+    (λ c. search needs) returns-2)

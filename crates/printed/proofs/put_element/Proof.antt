@@ -10,6 +10,4 @@ returns c = rw (← c .before .before .before .before .width .ensures) (then-lay
 
 pub put-element-spec : {M : Type 1} → statement M
 put-element-spec =
-    tie.close
-    (tie.spec
-    (λ c κs. search needs) (λ c κs. search needs) (λ c κs. search needs) (λ c κs. search needs) (λ c. search needs) returns)
+    tie.close (tie.spec (λ c κs. search needs) (λ c κs. search needs) (λ c κs. search needs) (λ c κs. search needs) (λ c. search needs) returns)

@@ -13,6 +13,4 @@ returns-2 c = rw (← c .before .before .before .before .before .is-bool .ensure
 
 pub put-literal-spec : {M : Type 1} → statement M
 put-literal-spec =
-    tie.close
-    (tie.spec
-    (λ c κs. search needs) (λ c κs. search needs) (λ c. search needs) returns (λ c κs. search needs) (λ c. search needs) returns-2)
+    tie.close (tie.spec (λ c κs. search needs) (λ c κs. search needs) (λ c. search needs) returns (λ c κs. search needs) (λ c. search needs) returns-2)

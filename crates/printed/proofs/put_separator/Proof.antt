@@ -12,6 +12,4 @@ returns-2 : tie.Need-returns-2
 returns-2 c = rw (ne-eqb _ _ (c .before .before .before .before .before .if1 .left)) (c .before .before .put-text .ensures)
 
 pub put-separator-spec : {M : Type 1} → statement M
-put-separator-spec =
-    tie.close (tie.spec
-    returns (λ c. search needs) (λ c κs. search needs) (λ c. search needs) returns-2)
+put-separator-spec = tie.close (tie.spec returns (λ c. search needs) (λ c κs. search needs) (λ c. search needs) returns-2)

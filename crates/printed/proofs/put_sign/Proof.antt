@@ -11,6 +11,4 @@ returns-2 : tie.Need-returns-2
 returns-2 c = rw (← c .before .before .before .before .before .has-sign .ensures, c .before .before .before .before .if1 .left) (c .before .before .put-byte .ensures ∙ sym (lay-one _ _))
 
 pub put-sign-spec : {M : Type 1} → statement M
-put-sign-spec =
-    tie.close (tie.spec
-    (λ c κs. search needs) returns (λ c κs. search needs) (λ c. search needs) returns-2)
+put-sign-spec = tie.close (tie.spec (λ c κs. search needs) returns (λ c κs. search needs) (λ c. search needs) returns-2)

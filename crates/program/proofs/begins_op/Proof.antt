@@ -14,12 +14,9 @@ returns-2 : tie.Need-returns-2
 unfolding beginsOp
 returns-2 c = simp (eq-eqb _ _ (c .if2 .taken), c .before .if1 .left)
 
-names-op-requires : tie.Need-names-op-requires
-names-op-requires c κs = search needs
-
 returns-3 : tie.Need-returns-3
 unfolding beginsOp
 returns-3 c = simp (← c .names-op .ensures, ne-eqb _ _ (c .before .if2 .left), c .before .before .if1 .left)
 
 pub begins-op-spec : {M : Type 1} → statement M
-begins-op-spec = tie.close (tie.spec returns returns-2 names-op-requires returns-3)
+begins-op-spec = tie.close (tie.spec returns returns-2 (λ c κs. search needs) returns-3)

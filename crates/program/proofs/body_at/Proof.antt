@@ -5,12 +5,9 @@ use Rattle.program.specs.Parts.{bodyAt}
 use Rattle.program.proofs.body_at.Statement.{statement}
 use Rattle.program.proofs.body_at.Tie as tie
 
-parts-at-requires : tie.Need-parts-at-requires
-parts-at-requires c κs = search needs
-
 returns : tie.Need-returns
 unfolding bodyAt
 returns c = c .parts-at .ensures
 
 pub body-at-spec : {M : Type 1} → statement M
-body-at-spec = tie.close (tie.spec parts-at-requires returns)
+body-at-spec = tie.close (tie.spec (λ c κs. search needs) returns)

@@ -7,15 +7,9 @@ use Rattle.program.specs.Parts.{depthAfter}
 use Rattle.program.proofs.depth_after.Statement.{statement}
 use Rattle.program.proofs.depth_after.Tie as tie
 
-add-result : tie.Need-add-result
-add-result c = search needs
-
 returns : tie.Need-returns
 unfolding depthAfter
 returns c = simp (eq-eqb _ _ (c .if1 .taken))
-
-sub-result : tie.Need-sub-result
-sub-result c = search needs
 
 returns-2 : tie.Need-returns-2
 unfolding depthAfter
@@ -30,4 +24,4 @@ unfolding depthAfter
 returns-4 c = simp (ne-eqb _ _ (c .if2 .left), ne-eqb _ _ (c .before .if1 .left))
 
 pub depth-after-spec : {M : Type 1} → statement M
-depth-after-spec = tie.close (tie.spec add-result returns sub-result returns-2 returns-3 returns-4)
+depth-after-spec = tie.close (tie.spec (λ c. search needs) returns (λ c. search needs) returns-2 returns-3 returns-4)

@@ -5,12 +5,9 @@ use Rattle.program.specs.Program.{noProgram}
 use Rattle.program.proofs.empty_program.Statement.{statement}
 use Rattle.program.proofs.empty_program.Tie as tie
 
-empty-parts-requires : tie.Need-empty-parts-requires
-empty-parts-requires c κs = search needs
-
 returns : tie.Need-returns
 unfolding noProgram
 returns c = simp (← c .empty-parts .ensures)
 
 pub empty-program-spec : {M : Type 1} → statement M
-empty-program-spec = tie.close (tie.spec empty-parts-requires returns)
+empty-program-spec = tie.close (tie.spec (λ c κs. search needs) returns)

@@ -10,9 +10,6 @@ returns : tie.Need-returns
 unfolding namingAfter
 returns c = simp (eq-eqb _ _ (c .if1 .taken))
 
-names-op-requires : tie.Need-names-op-requires
-names-op-requires c κs = search needs
-
 returns-2 : tie.Need-returns-2
 unfolding namingAfter
 returns-2 c = simp (c .if2 .taken, ← c .before .names-op .ensures, ne-eqb _ _ (c .before .before .if1 .left))
@@ -22,4 +19,4 @@ unfolding namingAfter
 returns-3 c = simp (c .if2 .left, ← c .before .names-op .ensures, ne-eqb _ _ (c .before .before .if1 .left))
 
 pub naming-after-spec : {M : Type 1} → statement M
-naming-after-spec = tie.close (tie.spec returns names-op-requires returns-2 returns-3)
+naming-after-spec = tie.close (tie.spec returns (λ c κs. search needs) returns-2 returns-3)

@@ -5,9 +5,6 @@ use borrow.Author.Tests.{eq-eqb, ne-eqb}
 use Rattle.program.proofs.naming_at.Statement.{statement}
 use Rattle.program.proofs.naming_at.Tie as tie
 
-naming-after-requires : tie.Need-naming-after-requires
-naming-after-requires c κs = search needs
-
 returns : tie.Need-returns
 returns c = simp (← c .naming-after .ensures, eq-eqb _ _ (c .before .if1 .taken))
 
@@ -15,4 +12,4 @@ returns-2 : tie.Need-returns-2
 returns-2 c = simp (ne-eqb _ _ (c .if1 .left))
 
 pub naming-at-spec : {M : Type 1} → statement M
-naming-at-spec = tie.close (tie.spec naming-after-requires returns returns-2)
+naming-at-spec = tie.close (tie.spec (λ c κs. search needs) returns returns-2)

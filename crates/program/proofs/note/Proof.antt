@@ -6,15 +6,6 @@ use Rattle.program.specs.Parts.{noted}
 use Rattle.program.proofs.note.Statement.{statement}
 use Rattle.program.proofs.note.Tie as tie
 
-part-of-requires : tie.Need-part-of-requires
-part-of-requires c κs = search needs
-
-cast-k : tie.Need-cast-k
-cast-k c = search needs
-
-added-to-requires : tie.Need-added-to-requires
-added-to-requires c κs = search needs
-
 returns : tie.Need-returns
 unfolding noted
 returns c = simp (← c .added-to .ensures, lt-ltb _ _ (c .before .if1 .taken), ← c .before .before .part-of .ensures)
@@ -24,4 +15,4 @@ unfolding noted
 returns-2 c = simp (le-ltb _ _ (c .if1 .left), ← c .before .part-of .ensures)
 
 pub note-spec : {M : Type 1} → statement M
-note-spec = tie.close (tie.spec part-of-requires cast-k added-to-requires returns returns-2)
+note-spec = tie.close (tie.spec (λ c κs. search needs) (λ c. search needs) (λ c κs. search needs) returns returns-2)

@@ -5,12 +5,9 @@ use Rattle.program.specs.Parts.{opAt}
 use Rattle.program.proofs.op_at.Statement.{statement}
 use Rattle.program.proofs.op_at.Tie as tie
 
-parts-at-requires : tie.Need-parts-at-requires
-parts-at-requires c κs = search needs
-
 returns : tie.Need-returns
 unfolding opAt
 returns c = c .parts-at .ensures
 
 pub op-at-spec : {M : Type 1} → statement M
-op-at-spec = tie.close (tie.spec parts-at-requires returns)
+op-at-spec = tie.close (tie.spec (λ c κs. search needs) returns)

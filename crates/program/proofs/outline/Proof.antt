@@ -5,21 +5,9 @@ use Rattle.program.specs.Program.{outlined}
 use Rattle.program.proofs.outline.Statement.{statement}
 use Rattle.program.proofs.outline.Tie as tie
 
-in-header-requires : tie.Need-in-header-requires
-in-header-requires c κs = search needs
-
-note-requires : tie.Need-note-requires
-note-requires c κs = search needs
-
 returns : tie.Need-returns
 unfolding outlined
 returns c = simp (← c .note .ensures, c .before .before .if1 .taken, ← c .before .before .before .in-header .ensures)
-
-begins-op-requires : tie.Need-begins-op-requires
-begins-op-requires c κs = search needs
-
-begin-requires : tie.Need-begin-requires
-begin-requires c κs = search needs
 
 returns-2 : tie.Need-returns-2
 unfolding outlined
@@ -30,4 +18,5 @@ unfolding outlined
 returns-3 c = simp (c .if2 .left, ← c .before .begins-op .ensures, c .before .before .if1 .left, ← c .before .before .before .in-header .ensures)
 
 pub outline-spec : {M : Type 1} → statement M
-outline-spec = tie.close (tie.spec in-header-requires note-requires returns begins-op-requires begin-requires returns-2 returns-3)
+outline-spec =
+    tie.close (tie.spec (λ c κs. search needs) (λ c κs. search needs) returns (λ c κs. search needs) (λ c κs. search needs) returns-2 returns-3)

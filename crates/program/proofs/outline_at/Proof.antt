@@ -5,9 +5,6 @@ use borrow.Author.Tests.{eq-eqb, ne-eqb}
 use Rattle.program.proofs.outline_at.Statement.{statement}
 use Rattle.program.proofs.outline_at.Tie as tie
 
-outline-requires : tie.Need-outline-requires
-outline-requires c κs = search needs
-
 returns : tie.Need-returns
 returns c = simp (← c .outline .ensures, eq-eqb _ _ (c .before .if1 .taken))
 
@@ -15,4 +12,4 @@ returns-2 : tie.Need-returns-2
 returns-2 c = simp (ne-eqb _ _ (c .if1 .left))
 
 pub outline-at-spec : {M : Type 1} → statement M
-outline-at-spec = tie.close (tie.spec outline-requires returns returns-2)
+outline-at-spec = tie.close (tie.spec (λ c κs. search needs) returns returns-2)

@@ -20,9 +20,6 @@ part-right : (l : List ℕ) → length l ≡ 256 → T (every partTest 0 l) → 
 unfolding partTest
 part-right l n t b h = eqb→eq _ _ (at 0 partTest l t b (omega arith))
 
-array-read-result : tie.Need-array-read-result
-array-read-result c = search needs
-
 sub-result : tie.Need-sub-result
 unfolding partTest partOf
 sub-result c = rw (part-right _ refl tt (c .args .role) (search needs)) (omega arith)
@@ -32,4 +29,4 @@ unfolding partTest partOf
 returns c = rw (part-right _ refl tt (c .args .role) (search needs)) (omega arith)
 
 pub part-of-spec : {M : Type 1} → statement M
-part-of-spec = tie.close (tie.spec array-read-result sub-result returns)
+part-of-spec = tie.close (tie.spec (λ c. search needs) sub-result returns)

@@ -8,15 +8,9 @@ use Rattle.program.specs.Parts.{partsAt}
 use Rattle.program.proofs.parts_at.Statement.{statement}
 use Rattle.program.proofs.parts_at.Tie as tie
 
-empty-parts-requires : tie.Need-empty-parts-requires
-empty-parts-requires c κs = search needs
-
 returns : tie.Need-returns
 unfolding partsAt
 returns c = simp (← c .empty-parts .ensures, lt-ltb _ _ (c .before .if1 .taken))
-
-slice-aggregate-parts-of : tie.Need-slice-aggregate-parts-of
-slice-aggregate-parts-of c = search needs
 
 parts-of-requires : tie.Need-parts-of-requires
 parts-of-requires c κs = (search needs, length-replicate {A = ℕ} 655380 0)
@@ -26,4 +20,4 @@ unfolding partsAt
 returns-2 c = simp (← c .before .parts-of .ensures, le-ltb _ _ (c .before .before .before .if1 .left))
 
 pub parts-at-spec : {M : Type 1} → statement M
-parts-at-spec = tie.close (tie.spec empty-parts-requires returns slice-aggregate-parts-of parts-of-requires returns-2)
+parts-at-spec = tie.close (tie.spec (λ c κs. search needs) returns (λ c. search needs) parts-of-requires returns-2)

@@ -22,15 +22,6 @@ Inv-loop symbol level text at stack₀ parts₀ depth₀ top₀ place₀ left₀
 abbrev μ-loop : tie.MeasureT-loop
 μ-loop symbol level text at stack₀ parts₀ depth₀ top₀ place₀ left₀ stack parts depth top place left = left
 
-empty-parts-requires : tie.Need-empty-parts-requires Inv-loop μ-loop
-empty-parts-requires c κs = search needs
-
-start-requires : tie.Need-start-requires Inv-loop μ-loop
-start-requires c κs = search needs
-
-add-left : tie.Need-add-left Inv-loop μ-loop
-add-left c = search needs
-
 loop-holds : tie.Need-loop-holds Inv-loop μ-loop
 unfolding partsOf readingsOf
 loop-holds c =
@@ -75,21 +66,12 @@ returns-2 c =
     let wrong = turn-wrong (l .left) (l .top) (l .stack) _ (l .place) _ _ (omega arith) (omega arith) (r .ensures) (not-true _ (c .if2 .taken)) in
     sym (ap (partsFrom (a .level) (l .parts) (l .depth)) wrong ∙ parts-stop (a .level) (l .parts) (l .depth) (r .result .token)) ∙ l .inv .0
 
-note-at-requires : tie.Need-note-at-requires Inv-loop μ-loop
-note-at-requires c κs = search needs
-
 depth-after-requires : tie.Need-depth-after-requires Inv-loop μ-loop
 depth-after-requires c κs =
     let h = c .before .before .before .before .before .before .before .before .before in
     let d = h .loop .inv .3 in
     let p = h .before .before .before .before .before .before .before .before .pre .0 in
     omega arith
-
-sub-left : tie.Need-sub-left Inv-loop μ-loop
-sub-left c = search needs
-
-loop-less : tie.Need-loop-less Inv-loop μ-loop
-loop-less c = search needs
 
 loop-again : tie.Need-loop-again Inv-loop μ-loop
 loop-again c =
@@ -124,4 +106,7 @@ returns-3 c =
     sym (ap (partsFrom (a .level) (l .parts) (l .depth)) (none-left (l .left) (drop (l .top) (l .stack)) _ (l .place) (omega arith))) ∙ l .inv .0
 
 pub parts-of-spec : {M : Type 1} → statement M
-parts-of-spec = tie.close (tie.spec Inv-loop μ-loop empty-parts-requires start-requires add-left loop-holds same-length returns read-token-requires same-length-2 returns-2 note-at-requires depth-after-requires sub-left loop-less loop-again same-length-3 returns-3)
+parts-of-spec =
+    tie.close (tie.spec Inv-loop μ-loop (λ c κs. search needs) (λ c κs. search needs) (λ c. search needs) loop-holds same-length returns
+    read-token-requires same-length-2 returns-2 (λ c κs. search needs) depth-after-requires (λ c. search needs) (λ c. search needs) loop-again
+    same-length-3 returns-3)

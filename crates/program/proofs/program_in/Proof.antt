@@ -22,15 +22,6 @@ Inv-loop text stack₀ program₀ naming₀ depth₀ top₀ place₀ left₀ sta
 abbrev μ-loop : tie.MeasureT-loop
 μ-loop text stack₀ program₀ naming₀ depth₀ top₀ place₀ left₀ stack program naming depth top place left = left
 
-empty-program-requires : tie.Need-empty-program-requires Inv-loop μ-loop
-empty-program-requires c κs = search needs
-
-start-requires : tie.Need-start-requires Inv-loop μ-loop
-start-requires c κs = search needs
-
-add-left : tie.Need-add-left Inv-loop μ-loop
-add-left c = search needs
-
 loop-holds : tie.Need-loop-holds Inv-loop μ-loop
 unfolding readings readingsOf
 loop-holds c =
@@ -75,24 +66,12 @@ returns-2 c =
     let wrong = turn-wrong (l .left) (l .top) (l .stack) _ (l .place) _ _ (omega arith) (omega arith) (r .ensures) (not-true _ (c .if2 .taken)) in
     sym (ap (programFrom (l .program) (l .naming) (l .depth)) wrong ∙ program-stop (l .program) (l .naming) (l .depth) (r .result .token)) ∙ l .inv .0
 
-outline-at-requires : tie.Need-outline-at-requires Inv-loop μ-loop
-outline-at-requires c κs = search needs
-
-naming-at-requires : tie.Need-naming-at-requires Inv-loop μ-loop
-naming-at-requires c κs = search needs
-
 depth-after-requires : tie.Need-depth-after-requires Inv-loop μ-loop
 depth-after-requires c κs =
     let h = c .before .before .before .before .before .before .before .before .before .before in
     let d = h .loop .inv .3 in
     let p = h .before .before .before .before .before .before .before .before .pre .0 in
     omega arith
-
-sub-left : tie.Need-sub-left Inv-loop μ-loop
-sub-left c = search needs
-
-loop-less : tie.Need-loop-less Inv-loop μ-loop
-loop-less c = search needs
 
 loop-again : tie.Need-loop-again Inv-loop μ-loop
 loop-again c =
@@ -127,4 +106,7 @@ returns-3 c =
     sym (ap (programFrom (l .program) (l .naming) (l .depth)) (none-left (l .left) (drop (l .top) (l .stack)) _ (l .place) (omega arith))) ∙ l .inv .0
 
 pub program-in-spec : {M : Type 1} → statement M
-program-in-spec = tie.close (tie.spec Inv-loop μ-loop empty-program-requires start-requires add-left loop-holds same-length returns read-token-requires same-length-2 returns-2 outline-at-requires naming-at-requires depth-after-requires sub-left loop-less loop-again same-length-3 returns-3)
+program-in-spec =
+    tie.close (tie.spec Inv-loop μ-loop (λ c κs. search needs) (λ c κs. search needs) (λ c. search needs) loop-holds same-length returns
+    read-token-requires same-length-2 returns-2 (λ c κs. search needs) (λ c κs. search needs) depth-after-requires (λ c. search needs)
+    (λ c. search needs) loop-again same-length-3 returns-3)

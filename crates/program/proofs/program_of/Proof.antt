@@ -8,15 +8,9 @@ use Rattle.program.specs.Program.{programOf}
 use Rattle.program.proofs.program_of.Statement.{statement}
 use Rattle.program.proofs.program_of.Tie as tie
 
-empty-program-requires : tie.Need-empty-program-requires
-empty-program-requires c κs = search needs
-
 returns : tie.Need-returns
 unfolding programOf
 returns c = simp (← c .empty-program .ensures, lt-ltb _ _ (c .before .if1 .taken))
-
-slice-aggregate-program-in : tie.Need-slice-aggregate-program-in
-slice-aggregate-program-in c = search needs
 
 program-in-requires : tie.Need-program-in-requires
 program-in-requires c κs = (search needs, length-replicate {A = ℕ} 655380 0)
@@ -26,4 +20,4 @@ unfolding programOf
 returns-2 c = simp (← c .before .program-in .ensures, le-ltb _ _ (c .before .before .before .if1 .left))
 
 pub program-of-spec : {M : Type 1} → statement M
-program-of-spec = tie.close (tie.spec empty-program-requires returns slice-aggregate-program-in program-in-requires returns-2)
+program-of-spec = tie.close (tie.spec (λ c κs. search needs) returns (λ c. search needs) program-in-requires returns-2)

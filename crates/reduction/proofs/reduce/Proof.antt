@@ -73,16 +73,5 @@ returns c =
 
 pub reduce-spec : {M : Type 1} → statement M
 reduce-spec =
-    tie.close
-    (tie.spec
-    Inv-loop
-    μ-loop
-    loop-holds
-    reduced-at-requires
-    mul-out
-    slice-write-out
-    (λ c. search needs)
-    (λ c. search needs)
-    loop-again
-    same-length
-    returns)
+    tie.close (tie.spec Inv-loop μ-loop loop-holds reduced-at-requires mul-out slice-write-out (λ c. search needs) (λ c. search needs) loop-again
+    same-length returns)

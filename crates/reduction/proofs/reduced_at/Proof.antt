@@ -36,5 +36,4 @@ returns c =
     ∙ ap (λ (j : ℕ → ℕ). fold (bodyOf (a .b) (a .t)) (a .start) (rowOver d from (now (a .x)) (sliceShape d from) j)) (ap at (c .before .index-at .ensures) ∙ at-six (unravel (dimsOf (a .to)) (a .k)))
 
 pub reduced-at-spec : {M : Type 1} → statement M
-reduced-at-spec =
-    tie.close (tie.spec (λ c κs. search needs) (λ c κs. search needs) fold-row-requires returns)
+reduced-at-spec = tie.close (tie.spec (λ c κs. search needs) (λ c κs. search needs) fold-row-requires returns)

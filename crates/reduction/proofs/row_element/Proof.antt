@@ -33,5 +33,4 @@ returns c =
     ∙ ap (λ (r : ℕ → ℕ). elementAt (now (a .x)) from (tab (length from) (inserted d (at (a .j)) r)) 0) seen
 
 pub row-element-spec : {M : Type 1} → statement M
-row-element-spec =
-    tie.close (tie.spec (λ c κs. search needs) (λ c κs. search needs) (λ c κs. search needs) returns)
+row-element-spec = tie.close (tie.spec (λ c κs. search needs) (λ c κs. search needs) (λ c κs. search needs) returns)

@@ -8,6 +8,4 @@ unfolding absConstraints
 returns c = simp (c .first-broken .ensures, c .before .same-element .ensures, c .before .before .same-shape .ensures)
 
 pub abs-broken-spec : {M : Type 1} → statement M
-abs-broken-spec =
-    tie.close (tie.spec
-    (λ c κs. search needs) (λ c κs. search needs) (λ c κs. search needs) returns)
+abs-broken-spec = tie.close (tie.spec (λ c κs. search needs) (λ c κs. search needs) (λ c κs. search needs) returns)

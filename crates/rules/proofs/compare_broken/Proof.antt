@@ -9,6 +9,5 @@ returns c = simp (c .first-broken .ensures, c .before .compare-type-is .ensures,
 
 pub compare-broken-spec : {M : Type 1} → statement M
 compare-broken-spec =
-    tie.close
-    (tie.spec
-    (λ c κs. search needs) (λ c κs. search needs) (λ c κs. search needs) (λ c κs. search needs) (λ c κs. search needs) (λ c κs. search needs) returns)
+    tie.close (tie.spec (λ c κs. search needs) (λ c κs. search needs) (λ c κs. search needs) (λ c κs. search needs) (λ c κs. search needs)
+    (λ c κs. search needs) returns)

@@ -17,5 +17,4 @@ unfolding compareTypeIs
 returns-3 c = simp (ne-eqb _ _ (c .before .before .if1 .left), ← c .before .is-signed .ensures, c .if2 .left)
 
 pub compare-type-is-spec : {M : Type 1} → statement M
-compare-type-is-spec = tie.close (tie.spec
-    returns (λ c κs. search needs) returns-2 returns-3)
+compare-type-is-spec = tie.close (tie.spec returns (λ c κs. search needs) returns-2 returns-3)

@@ -19,7 +19,5 @@ returns c = simp (c .first-broken .ensures, c .before .both .ensures, c .before 
 
 pub concatenate-broken-spec : {M : Type 1} → statement M
 concatenate-broken-spec =
-    tie.close
-    (tie.spec
-    (λ c. search needs) (λ c κs. search needs) all-types-requires all-types-requires-2 (λ c κs. search needs) (λ c κs. search needs)
-    (λ c κs. search needs) same-but-one-requires (λ c κs. search needs) (λ c κs. search needs) (λ c κs. search needs) returns)
+    tie.close (tie.spec (λ c. search needs) (λ c κs. search needs) all-types-requires all-types-requires-2 (λ c κs. search needs)
+    (λ c κs. search needs) (λ c κs. search needs) same-but-one-requires (λ c κs. search needs) (λ c κs. search needs) (λ c κs. search needs) returns)

@@ -8,5 +8,4 @@ unfolding constantConstraints
 returns c = simp (c .first-broken .ensures, c .before .same-type .ensures)
 
 pub constant-broken-spec : {M : Type 1} → statement M
-constant-broken-spec = tie.close (tie.spec
-    (λ c κs. search needs) (λ c κs. search needs) returns)
+constant-broken-spec = tie.close (tie.spec (λ c κs. search needs) (λ c κs. search needs) returns)

@@ -8,5 +8,4 @@ unfolding convertConstraints
 returns c = simp (c .first-broken .ensures, c .before .same-shape .ensures)
 
 pub convert-broken-spec : {M : Type 1} → statement M
-convert-broken-spec = tie.close (tie.spec
-    (λ c κs. search needs) (λ c κs. search needs) returns)
+convert-broken-spec = tie.close (tie.spec (λ c κs. search needs) (λ c κs. search needs) returns)

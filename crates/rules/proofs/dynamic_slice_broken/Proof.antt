@@ -19,8 +19,6 @@ returns c = simp (c .first-broken .ensures, c .before .both2 .ensures, c .before
 
 pub dynamic-slice-broken-spec : {M : Type 1} → statement M
 dynamic-slice-broken-spec =
-    tie.close
-    (tie.spec
-    (λ c. search needs) (λ c. search needs) (λ c κs. search needs) (λ c κs. search needs) (λ c κs. search needs) (λ c κs. search needs)
-    (λ c κs. search needs) all-types-requires all-dims-requires (λ c κs. search needs) all-dims-requires-2 (λ c κs. search needs) (λ c κs. search needs)
-    returns)
+    tie.close (tie.spec (λ c. search needs) (λ c. search needs) (λ c κs. search needs) (λ c κs. search needs) (λ c κs. search needs)
+    (λ c κs. search needs) (λ c κs. search needs) all-types-requires all-dims-requires (λ c κs. search needs) all-dims-requires-2
+    (λ c κs. search needs) (λ c κs. search needs) returns)

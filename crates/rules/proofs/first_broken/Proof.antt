@@ -39,6 +39,5 @@ returns-2 c = sym (first-end (c .before .before .args .t1) (c .before .loop .k) 
 
 pub first-broken-spec : {M : Type 1} → statement M
 first-broken-spec =
-    tie.close
-    (tie.spec
-    Inv-loop μ-loop loop-holds (λ c. search needs) (λ c. search needs) returns (λ c. search needs) (λ c. search needs) loop-again returns-2)
+    tie.close (tie.spec Inv-loop μ-loop loop-holds (λ c. search needs) (λ c. search needs) returns (λ c. search needs) (λ c. search needs) loop-again
+    returns-2)

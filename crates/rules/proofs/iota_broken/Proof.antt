@@ -8,6 +8,4 @@ unfolding iotaConstraints
 returns c = simp (c .first-broken .ensures, c .before .below .ensures, c .before .before .rank-of .ensures)
 
 pub iota-broken-spec : {M : Type 1} → statement M
-iota-broken-spec =
-    tie.close (tie.spec
-    (λ c κs. search needs) (λ c κs. search needs) (λ c κs. search needs) returns)
+iota-broken-spec = tie.close (tie.spec (λ c κs. search needs) (λ c κs. search needs) (λ c κs. search needs) returns)

@@ -15,7 +15,5 @@ returns c = simp (c .first-broken .ensures, c .before .both2 .ensures, c .before
 
 pub pad-broken-spec : {M : Type 1} → statement M
 pad-broken-spec =
-    tie.close
-    (tie.spec
-    (λ c κs. search needs) (λ c κs. search needs) (λ c κs. search needs) (λ c κs. search needs) (λ c κs. search needs) (λ c κs. search needs)
-    all-dims-requires (λ c κs. search needs) all-dims-requires-2 (λ c κs. search needs) (λ c κs. search needs) returns)
+    tie.close (tie.spec (λ c κs. search needs) (λ c κs. search needs) (λ c κs. search needs) (λ c κs. search needs) (λ c κs. search needs)
+    (λ c κs. search needs) all-dims-requires (λ c κs. search needs) all-dims-requires-2 (λ c κs. search needs) (λ c κs. search needs) returns)

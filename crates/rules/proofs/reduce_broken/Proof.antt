@@ -18,8 +18,6 @@ returns c = simp (c .first-broken .ensures, c .before .same-element2 .ensures, c
 
 pub reduce-broken-spec : {M : Type 1} → statement M
 reduce-broken-spec =
-    tie.close
-    (tie.spec
-    (λ c κs. search needs) (λ c κs. search needs) (λ c κs. search needs) (λ c κs. search needs) all-dims-requires all-dims-requires-2
-    (λ c κs. search needs) (λ c κs. search needs) (λ c κs. search needs) (λ c κs. search needs) all-dims-requires-3 (λ c κs. search needs)
-    (λ c κs. search needs) (λ c κs. search needs) returns)
+    tie.close (tie.spec (λ c κs. search needs) (λ c κs. search needs) (λ c κs. search needs) (λ c κs. search needs) all-dims-requires
+    all-dims-requires-2 (λ c κs. search needs) (λ c κs. search needs) (λ c κs. search needs) (λ c κs. search needs) all-dims-requires-3
+    (λ c κs. search needs) (λ c κs. search needs) (λ c κs. search needs) returns)

@@ -15,6 +15,5 @@ returns c = simp (c .first-broken .ensures, c .before .all-dims2 .ensures, c .be
 
 pub reverse-broken-spec : {M : Type 1} → statement M
 reverse-broken-spec =
-    tie.close
-    (tie.spec
-    (λ c κs. search needs) (λ c κs. search needs) (λ c κs. search needs) all-dims-requires all-dims-requires-2 (λ c κs. search needs) returns)
+    tie.close (tie.spec (λ c κs. search needs) (λ c κs. search needs) (λ c κs. search needs) all-dims-requires all-dims-requires-2
+    (λ c κs. search needs) returns)

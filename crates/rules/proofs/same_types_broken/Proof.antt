@@ -8,5 +8,4 @@ unfolding sameTypesConstraints
 returns c = simp (c .first-broken .ensures, c .before .all-types .ensures)
 
 pub same-types-broken-spec : {M : Type 1} → statement M
-same-types-broken-spec = tie.close (tie.spec
-    (λ c κs. search needs) (λ c κs. search needs) returns)
+same-types-broken-spec = tie.close (tie.spec (λ c κs. search needs) (λ c κs. search needs) returns)

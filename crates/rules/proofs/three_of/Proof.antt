@@ -6,5 +6,4 @@ returns : tie.Need-returns
 returns c = simp (c .both2 .ensures, c .before .before .both .ensures)
 
 pub three-of-spec : {M : Type 1} → statement M
-three-of-spec = tie.close (tie.spec
-    (λ c κs. search needs) (λ c κs. search needs) returns)
+three-of-spec = tie.close (tie.spec (λ c κs. search needs) (λ c κs. search needs) returns)

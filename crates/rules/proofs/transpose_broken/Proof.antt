@@ -18,7 +18,5 @@ returns c = simp (c .first-broken .ensures, c .before .both3 .ensures, c .before
 
 pub transpose-broken-spec : {M : Type 1} → statement M
 transpose-broken-spec =
-    tie.close
-    (tie.spec
-    (λ c κs. search needs) (λ c κs. search needs) (λ c κs. search needs) all-dims-requires (λ c κs. search needs) all-dims-requires-2
-    (λ c κs. search needs) (λ c κs. search needs) all-dims-requires-3 (λ c κs. search needs) (λ c κs. search needs) returns)
+    tie.close (tie.spec (λ c κs. search needs) (λ c κs. search needs) (λ c κs. search needs) all-dims-requires (λ c κs. search needs)
+    all-dims-requires-2 (λ c κs. search needs) (λ c κs. search needs) all-dims-requires-3 (λ c κs. search needs) (λ c κs. search needs) returns)

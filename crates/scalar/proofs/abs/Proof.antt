@@ -26,6 +26,5 @@ returns-3 c = abs-plain (c .before .before .args .t) (c .before .before .fits .a
 
 pub abs-spec : {M : Type 1} → statement M
 abs-spec =
-    tie.close
-    (tie.spec (λ c κs. search needs) (λ c κs. search needs) (λ c κs. search needs) returns (λ c. search needs) add-result
-    returns-2 returns-3)
+    tie.close (tie.spec (λ c κs. search needs) (λ c κs. search needs) (λ c κs. search needs) returns (λ c. search needs) add-result returns-2
+    returns-3)

@@ -30,6 +30,4 @@ returns c =
     rw (c .before .mask .ensures, low-is t a, c .width .ensures, ← leading-more (widthOf t) 64 (a % 2 ^ widthOf t) (sized t .most) (mod-lt a (pow-pos (widthOf t)))) (omega arith)
 
 pub count-leading-zeros-spec : {M : Type 1} → statement M
-count-leading-zeros-spec =
-    tie.close
-    (tie.spec (λ c κs. search needs) (λ c κs. search needs) cast-result sub-result sub-result-2 returns)
+count-leading-zeros-spec = tie.close (tie.spec (λ c κs. search needs) (λ c κs. search needs) cast-result sub-result sub-result-2 returns)

@@ -17,6 +17,4 @@ returns-2 c =
     (c .fit .ensures ∙ rw (c .before .wrapping-mul .ensures) (sym (product-slot (s .args .t) (s .fits .a .fits) (s .fits .b .fits))))
 
 pub multiply-spec : {M : Type 1} → statement M
-multiply-spec =
-    tie.close
-    (tie.spec (λ c κs. search needs) returns (λ c κs. search needs) (λ c κs. search needs) returns-2)
+multiply-spec = tie.close (tie.spec (λ c κs. search needs) returns (λ c κs. search needs) (λ c κs. search needs) returns-2)

@@ -50,6 +50,5 @@ returns-4 c =
 
 pub shift-right-arithmetic-spec : {M : Type 1} → statement M
 shift-right-arithmetic-spec =
-    tie.close
-    (tie.spec (λ c κs. search needs) (λ c κs. search needs) (λ c. search needs) shr-result sub-result-2 returns returns-2
-    shr-result-2 returns-3 returns-4)
+    tie.close (tie.spec (λ c κs. search needs) (λ c κs. search needs) (λ c. search needs) shr-result sub-result-2 returns returns-2 shr-result-2
+    returns-3 returns-4)

@@ -20,6 +20,4 @@ returns-2 c =
     srl-out (s .args .t) (s .fits .a .fits) (rw (c .before .width .ensures) at (c .if1 .left))
 
 pub shift-right-logical-spec : {M : Type 1} → statement M
-shift-right-logical-spec =
-    tie.close
-    (tie.spec (λ c κs. search needs) (λ c κs. search needs) shr-fit (λ c κs. search needs) returns returns-2)
+shift-right-logical-spec = tie.close (tie.spec (λ c κs. search needs) (λ c κs. search needs) shr-fit (λ c κs. search needs) returns returns-2)

@@ -20,6 +20,4 @@ returns c = c .wrapping-add-u64 .ensures ∙ product-digits 4294967296 (c .befor
 
 pub wrapping-mul-spec : {M : Type 1} → statement M
 wrapping-mul-spec =
-    tie.close
-    (tie.spec mul-cross mul-cross-2 (λ c. search needs) mul-wrapping-add-u64 (λ c. search needs) (λ c κs. search needs)
-    returns)
+    tie.close (tie.spec mul-cross mul-cross-2 (λ c. search needs) mul-wrapping-add-u64 (λ c. search needs) (λ c κs. search needs) returns)

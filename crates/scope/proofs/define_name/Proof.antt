@@ -9,27 +9,13 @@ use native.Mathlib.Omega.{arith}
 use Rattle.scope.proofs.define_name.Statement.{statement}
 use Rattle.scope.proofs.define_name.Tie as tie
 
-is-visible-requires : tie.Need-is-visible-requires
-is-visible-requires c κs = search needs
-
-same-length : tie.Need-same-length
-same-length c = search needs
-
 returns : tie.Need-returns
 unfolding define answered
 returns c = record { answer = simp (← c .before .is-visible .ensures, c .if1 .taken); size = refl; room = omega arith; within = c .before .before .before .before .before .pre .1 }
-
-push-requires : tie.Need-push-requires
-push-requires c κs = search needs
-
-same-length-2 : tie.Need-same-length-2
-same-length-2 c = search needs
 
 returns-2 : tie.Need-returns-2
 unfolding define
 returns-2 c = rescope (simp (← c .before .before .before .before .before .is-visible .ensures, c .before .before .before .before .if1 .left)) (omega arith) (c .before .before .push .ensures)
 
 pub define-name-spec : {M : Type 1} → statement M
-define-name-spec =
-    tie.close
-    (tie.spec is-visible-requires same-length returns push-requires same-length-2 returns-2)
+define-name-spec = tie.close (tie.spec (λ c κs. search needs) (λ c. search needs) returns (λ c κs. search needs) (λ c. search needs) returns-2)

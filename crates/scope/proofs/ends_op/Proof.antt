@@ -10,12 +10,9 @@ returns : tie.Need-returns
 unfolding ends
 returns c = simp (eq-eqb _ _ (c .if1 .taken))
 
-begins-op-requires : tie.Need-begins-op-requires
-begins-op-requires c κs = search needs
-
 returns-2 : tie.Need-returns-2
 unfolding ends
 returns-2 c = simp (← c .begins-op .ensures, ne-eqb _ _ (c .before .if1 .left))
 
 pub ends-op-spec : {M : Type 1} → statement M
-ends-op-spec = tie.close (tie.spec returns begins-op-requires returns-2)
+ends-op-spec = tie.close (tie.spec returns (λ c κs. search needs) returns-2)

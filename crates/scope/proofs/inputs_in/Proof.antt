@@ -18,12 +18,6 @@ abbrev μ-loop : tie.MeasureT-loop
 loop-holds : tie.Need-loop-holds Inv-loop μ-loop
 loop-holds c = record { same = refl; sound = refl; size = refl; used = omega arith; within = c .before .before .before .pre .1; inside = omega arith }
 
-mul-define-name : tie.Need-mul-define-name Inv-loop μ-loop
-mul-define-name c = search needs
-
-shared-slice-read-define-name : tie.Need-shared-slice-read-define-name Inv-loop μ-loop
-shared-slice-read-define-name c = search needs
-
 define-name-requires : tie.Need-define-name-requires Inv-loop μ-loop
 define-name-requires c κs =
     let v = c .before .before .before .loop .inv in
@@ -37,12 +31,6 @@ same-length c = c .before .before .before .before .define-name .ensures .size �
 returns : tie.Need-returns Inv-loop μ-loop
 returns c = inputs-fault (c .before .before .before .before .before .before .before .before .loop .inv) (c .before .before .before .before .before .before .before .loop-test .taken) (c .before .before .before .before .define-name .ensures) (c .if1 .taken)
 
-add-i : tie.Need-add-i Inv-loop μ-loop
-add-i c = search needs
-
-loop-less : tie.Need-loop-less Inv-loop μ-loop
-loop-less c = search needs
-
 loop-again : tie.Need-loop-again Inv-loop μ-loop
 loop-again c = inputs-more (c .before .before .before .before .before .before .before .before .loop .inv) (c .before .before .before .before .before .before .before .loop-test .taken) (c .before .before .before .before .define-name .ensures) (c .if1 .left)
 
@@ -54,18 +42,5 @@ returns-2 c = inputs-done (c .before .loop .inv) (c .loop-test .left)
 
 pub inputs-in-spec : {M : Type 1} → statement M
 inputs-in-spec =
-    tie.close
-    (tie.spec
-    Inv-loop
-    μ-loop
-    loop-holds
-    mul-define-name
-    shared-slice-read-define-name
-    define-name-requires
-    same-length
-    returns
-    add-i
-    loop-less
-    loop-again
-    same-length-2
-    returns-2)
+    tie.close (tie.spec Inv-loop μ-loop loop-holds (λ c. search needs) (λ c. search needs) define-name-requires same-length returns
+    (λ c. search needs) (λ c. search needs) loop-again same-length-2 returns-2)

@@ -6,9 +6,6 @@ use borrow.Author.Needs.{needs}
 use Rattle.scope.proofs.is_definition.Statement.{statement}
 use Rattle.scope.proofs.is_definition.Tie as tie
 
-same-at-requires : tie.Need-same-at-requires
-same-at-requires c κs = search needs
-
 returns : tie.Need-returns
 unfolding defines
 returns c = simp (← c .same-at .ensures, lt-ltb _ _ (c .before .if1 .taken))
@@ -18,4 +15,4 @@ unfolding defines
 returns-2 c = simp (le-ltb _ _ (c .if1 .left))
 
 pub is-definition-spec : {M : Type 1} → statement M
-is-definition-spec = tie.close (tie.spec same-at-requires returns returns-2)
+is-definition-spec = tie.close (tie.spec (λ c κs. search needs) returns returns-2)

@@ -18,23 +18,8 @@ abbrev μ-loop : tie.MeasureT-loop
 loop-holds : tie.Need-loop-holds Inv-loop μ-loop
 loop-holds c = refl
 
-mul-is-definition : tie.Need-mul-is-definition Inv-loop μ-loop
-mul-is-definition c = search needs
-
-shared-slice-read-is-definition : tie.Need-shared-slice-read-is-definition Inv-loop μ-loop
-shared-slice-read-is-definition c = search needs
-
-is-definition-requires : tie.Need-is-definition-requires Inv-loop μ-loop
-is-definition-requires c κs = search needs
-
 returns : tie.Need-returns Inv-loop μ-loop
 returns c = rw (← c .before .before .before .before .loop .inv, visible-next _ _ _ _ (c .before .before .before .loop-test .taken)) (simp (← c .before .is-definition .ensures, c .if1 .taken))
-
-add-i : tie.Need-add-i Inv-loop μ-loop
-add-i c = search needs
-
-loop-less : tie.Need-loop-less Inv-loop μ-loop
-loop-less c = search needs
 
 loop-again : tie.Need-loop-again Inv-loop μ-loop
 loop-again c = rw (← c .before .before .before .before .loop .inv, visible-next _ _ _ _ (c .before .before .before .loop-test .taken)) (simp (← c .before .is-definition .ensures, c .if1 .left))
@@ -44,16 +29,5 @@ returns-2 c = sym (visible-end _ _ _ _ (c .loop-test .left)) ∙ c .before .loop
 
 pub is-visible-spec : {M : Type 1} → statement M
 is-visible-spec =
-    tie.close
-    (tie.spec
-    Inv-loop
-    μ-loop
-    loop-holds
-    mul-is-definition
-    shared-slice-read-is-definition
-    is-definition-requires
-    returns
-    add-i
-    loop-less
-    loop-again
-    returns-2)
+    tie.close (tie.spec Inv-loop μ-loop loop-holds (λ c. search needs) (λ c. search needs) (λ c κs. search needs) returns (λ c. search needs)
+    (λ c. search needs) loop-again returns-2)

@@ -8,9 +8,6 @@ use native.Mathlib.Omega.{arith}
 use Rattle.scope.proofs.look_up.Statement.{statement}
 use Rattle.scope.proofs.look_up.Tie as tie
 
-is-visible-requires : tie.Need-is-visible-requires
-is-visible-requires c κs = search needs
-
 returns : tie.Need-returns
 unfolding look answered
 returns c = record { answer = simp (← c .before .is-visible .ensures, c .if1 .taken); size = refl; room = omega arith; within = c .before .before .before .before .pre }
@@ -20,4 +17,4 @@ unfolding look answered
 returns-2 c = record { answer = simp (← c .before .is-visible .ensures, c .if1 .left); size = refl; room = omega arith; within = c .before .before .before .before .pre }
 
 pub look-up-spec : {M : Type 1} → statement M
-look-up-spec = tie.close (tie.spec is-visible-requires returns returns-2)
+look-up-spec = tie.close (tie.spec (λ c κs. search needs) returns returns-2)

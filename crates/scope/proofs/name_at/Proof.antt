@@ -7,9 +7,6 @@ use borrow.Author.Needs.{needs}
 use Rattle.scope.proofs.name_at.Statement.{statement}
 use Rattle.scope.proofs.name_at.Tie as tie
 
-token-at-requires : tie.Need-token-at-requires
-token-at-requires c κs = search needs
-
 sub-t4 : tie.Need-sub-t4
 sub-t4 c =
     let a = c .before .before .before .args in
@@ -22,4 +19,4 @@ unfolding nameAt
 returns c = simp (← c .before .token-at .ensures)
 
 pub name-at-spec : {M : Type 1} → statement M
-name-at-spec = tie.close (tie.spec token-at-requires sub-t4 returns)
+name-at-spec = tie.close (tie.spec (λ c κs. search needs) sub-t4 returns)

@@ -21,14 +21,8 @@ returns c =
     let a = c .before .before .before .before .before .before .before .before .args in
     rescope (ap (λ x. andThen x (settle (a .text .now))) (sym (past-end (a .text .now) (drop (a .top) (a .entries .now)) (a .at) (c .before .before .before .before .if1 .taken)))) (omega arith) (c .before .before .settle-names .ensures)
 
-read-names-requires : tie.Need-read-names-requires
-read-names-requires c κs = search needs
-
 settle-names-requires-2 : tie.Need-settle-names-requires-2
 settle-names-requires-2 c κs = c .before .before .before .before .before .before .before .read-names .ensures .within
-
-same-length-2 : tie.Need-same-length-2
-same-length-2 c = search needs
 
 same-length-3 : tie.Need-same-length-3
 same-length-3 c = c .before .before .settle-names2 .ensures .size ∙ c .before .before .before .before .before .before .before .before .before .before .read-names .ensures .size
@@ -36,9 +30,6 @@ same-length-3 c = c .before .before .settle-names2 .ensures .size ∙ c .before 
 returns-2 : tie.Need-returns-2
 unfolding namesOf
 returns-2 c = rescope refl (omega arith) (goes-on (c .before .before .before .before .before .before .before .before .before .before .read-names .ensures) (settle _) (c .before .before .before .before .if2 .taken) (c .before .before .settle-names2 .ensures))
-
-same-length-4 : tie.Need-same-length-4
-same-length-4 c = search needs
 
 same-length-5 : tie.Need-same-length-5
 same-length-5 c = c .before .before .before .before .before .before .read-names .ensures .size
@@ -49,16 +40,5 @@ returns-3 c = stops (c .before .before .before .before .before .before .read-nam
 
 pub names-in-spec : {M : Type 1} → statement M
 names-in-spec =
-    tie.close
-    (tie.spec
-    settle-names-requires
-    same-length
-    returns
-    read-names-requires
-    settle-names-requires-2
-    same-length-2
-    same-length-3
-    returns-2
-    same-length-4
-    same-length-5
-    returns-3)
+    tie.close (tie.spec settle-names-requires same-length returns (λ c κs. search needs) settle-names-requires-2 (λ c. search needs) same-length-3
+    returns-2 (λ c. search needs) same-length-5 returns-3)

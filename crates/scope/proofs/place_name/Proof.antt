@@ -10,18 +10,12 @@ use native.Mathlib.Omega.{arith}
 use Rattle.scope.proofs.place_name.Statement.{statement}
 use Rattle.scope.proofs.place_name.Tie as tie
 
-define-name-requires : tie.Need-define-name-requires
-define-name-requires c κs = search needs
-
 same-length : tie.Need-same-length
 same-length c = c .before .before .define-name .ensures .size
 
 returns : tie.Need-returns
 unfolding placed
 returns c = rescope (simp (eq-eqb _ _ (c .before .before .before .before .if1 .taken))) (omega arith) (c .before .before .define-name .ensures)
-
-define-name-requires-2 : tie.Need-define-name-requires-2
-define-name-requires-2 c κs = search needs
 
 same-length-2 : tie.Need-same-length-2
 same-length-2 c = c .before .before .define-name2 .ensures .size
@@ -30,12 +24,6 @@ returns-2 : tie.Need-returns-2
 unfolding placed
 returns-2 c = rescope (simp (eq-eqb _ _ (c .before .before .before .before .if2 .taken), ne-eqb _ _ (c .before .before .before .before .before .if1 .left))) (omega arith) (c .before .before .define-name2 .ensures)
 
-add-push : tie.Need-add-push
-add-push c = search needs
-
-push-requires : tie.Need-push-requires
-push-requires c κs = search needs
-
 same-length-3 : tie.Need-same-length-3
 same-length-3 c = c .before .before .push .ensures .size
 
@@ -43,18 +31,9 @@ returns-3 : tie.Need-returns-3
 unfolding placed
 returns-3 c = rescope (simp (eq-eqb _ _ (c .before .before .before .before .if3 .taken), ne-eqb _ _ (c .before .before .before .before .before .before .if1 .left), ne-eqb _ _ (c .before .before .before .before .before .if2 .left))) (omega arith) (c .before .before .push .ensures)
 
-look-up-requires : tie.Need-look-up-requires
-look-up-requires c κs = search needs
-
-same-length-4 : tie.Need-same-length-4
-same-length-4 c = search needs
-
 returns-4 : tie.Need-returns-4
 unfolding placed
 returns-4 c = rescope (simp (eq-eqb _ _ (c .before .before .if4 .taken), ne-eqb _ _ (c .before .before .before .before .before .if1 .left), ne-eqb _ _ (c .before .before .before .before .if2 .left), ne-eqb _ _ (c .before .before .before .if3 .left))) (omega arith) (c .look-up .ensures)
-
-push-requires-2 : tie.Need-push-requires-2
-push-requires-2 c κs = search needs
 
 same-length-5 : tie.Need-same-length-5
 same-length-5 c = c .before .before .push2 .ensures .size
@@ -62,12 +41,6 @@ same-length-5 c = c .before .before .push2 .ensures .size
 returns-5 : tie.Need-returns-5
 unfolding placed
 returns-5 c = rescope (simp (eq-eqb _ _ (c .before .before .before .before .if5 .taken), ne-eqb _ _ (c .before .before .before .before .before .before .before .before .if1 .left), ne-eqb _ _ (c .before .before .before .before .before .before .before .if2 .left), ne-eqb _ _ (c .before .before .before .before .before .before .if3 .left), ne-eqb _ _ (c .before .before .before .before .before .if4 .left))) (omega arith) (c .before .before .push2 .ensures)
-
-forget-body-requires : tie.Need-forget-body-requires
-forget-body-requires c κs = search needs
-
-same-length-6 : tie.Need-same-length-6
-same-length-6 c = search needs
 
 returns-6 : tie.Need-returns-6
 unfolding placed answered
@@ -82,25 +55,6 @@ returns-7 c = record { answer = simp (ne-eqb _ _ (c .before .before .before .bef
 
 pub place-name-spec : {M : Type 1} → statement M
 place-name-spec =
-    tie.close
-    (tie.spec
-    define-name-requires
-    same-length
-    returns
-    define-name-requires-2
-    same-length-2
-    returns-2
-    add-push
-    push-requires
-    same-length-3
-    returns-3
-    look-up-requires
-    same-length-4
-    returns-4
-    push-requires-2
-    same-length-5
-    returns-5
-    forget-body-requires
-    same-length-6
-    returns-6
-    returns-7)
+    tie.close (tie.spec (λ c κs. search needs) same-length returns (λ c κs. search needs) same-length-2 returns-2 (λ c. search needs)
+    (λ c κs. search needs) same-length-3 returns-3 (λ c κs. search needs) (λ c. search needs) returns-4 (λ c κs. search needs) same-length-5 returns-5
+    (λ c κs. search needs) (λ c. search needs) returns-6 returns-7)

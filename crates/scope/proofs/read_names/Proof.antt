@@ -22,12 +22,6 @@ Inv-loop text at stack₀ entries₀ top n₀ previous₀ next₀ place₀ left�
 abbrev μ-loop : tie.MeasureT-loop
 μ-loop text at stack₀ entries₀ top n₀ previous₀ next₀ place₀ left₀ stack entries n previous next place left = left
 
-start-requires : tie.Need-start-requires Inv-loop μ-loop
-start-requires c κs = search needs
-
-add-left : tie.Need-add-left Inv-loop μ-loop
-add-left c = search needs
-
 loop-holds : tie.Need-loop-holds Inv-loop μ-loop
 unfolding readingsOf
 loop-holds c =
@@ -117,12 +111,6 @@ returns-3 c =
     let t = c .before .before .before .before .before .before .before .before .before .before .before .before .before .loop-test .taken in
     naming-fault v _ _ _ (turn-right (l .left) (l .next) (l .stack) _ (l .place) _ _ (omega arith) (omega arith) (r .ensures) (not-false _ (c .before .before .before .before .before .before .if2 .left))) (c .before .before .before .before .turn .ensures) (omega arith) (c .if3 .taken)
 
-sub-left : tie.Need-sub-left Inv-loop μ-loop
-sub-left c = search needs
-
-loop-less : tie.Need-loop-less Inv-loop μ-loop
-loop-less c = search needs
-
 loop-again : tie.Need-loop-again Inv-loop μ-loop
 loop-again c =
     let l = c .before .before .before .before .before .before .before .before .before .before .before .before .before .before .loop in
@@ -151,27 +139,6 @@ returns-4 c =
 
 pub read-names-spec : {M : Type 1} → statement M
 read-names-spec =
-    tie.close
-    (tie.spec
-    Inv-loop
-    μ-loop
-    start-requires
-    add-left
-    loop-holds
-    same-length
-    same-length-2
-    returns
-    read-token-requires
-    same-length-3
-    same-length-4
-    returns-2
-    turn-requires
-    same-length-5
-    same-length-6
-    returns-3
-    sub-left
-    loop-less
-    loop-again
-    same-length-7
-    same-length-8
-    returns-4)
+    tie.close (tie.spec Inv-loop μ-loop (λ c κs. search needs) (λ c. search needs) loop-holds same-length same-length-2 returns read-token-requires
+    same-length-3 same-length-4 returns-2 turn-requires same-length-5 same-length-6 returns-3 (λ c. search needs) (λ c. search needs) loop-again
+    same-length-7 same-length-8 returns-4)

@@ -15,14 +15,8 @@ Inv-loop text entries₀ top k₀ entries k = Settling text entries₀ top k ent
 abbrev μ-loop : tie.MeasureT-loop
 μ-loop text entries₀ top k₀ entries k = k
 
-waiting-end-requires : tie.Need-waiting-end-requires Inv-loop μ-loop
-waiting-end-requires c κs = search needs
-
 loop-holds : tie.Need-loop-holds Inv-loop μ-loop
 loop-holds c = settling-first _ _ _ _ (c .before .before .before .before .pre) (c .waiting-end .ensures)
-
-sub-a : tie.Need-sub-a Inv-loop μ-loop
-sub-a c = search needs
 
 mul-a : tie.Need-mul-a Inv-loop μ-loop
 mul-a c =
@@ -47,9 +41,6 @@ sub-a-2 c =
     let l = c .before .before .loop in
     ltb-true _ _ (still-waits _ _ _ _ _ (l .inv) (c .before .loop-test .taken))
 
-is-visible-requires : tie.Need-is-visible-requires Inv-loop μ-loop
-is-visible-requires c κs = search needs
-
 same-length : tie.Need-same-length Inv-loop μ-loop
 same-length c = c .before .before .before .before .before .loop .inv .size
 
@@ -62,9 +53,6 @@ returns c =
     let z = v .size in
     let q = v .low in
     record { answer = sym (settling-fault _ _ _ _ _ v (c .before .before .before .before .loop-test .taken) (sym (c .before .is-visible .ensures) ∙ c .if1 .taken)); size = z; room = omega arith; within = omega arith }
-
-sub-entries : tie.Need-sub-entries Inv-loop μ-loop
-sub-entries c = search needs
 
 mul-entries : tie.Need-mul-entries Inv-loop μ-loop
 mul-entries c =
@@ -83,12 +71,6 @@ slice-write-entries c =
     let z = v .size in
     let q = v .low in
     omega arith
-
-sub-k : tie.Need-sub-k Inv-loop μ-loop
-sub-k c = search needs
-
-loop-less : tie.Need-loop-less Inv-loop μ-loop
-loop-less c = search needs
 
 loop-again : tie.Need-loop-again Inv-loop μ-loop
 loop-again c =
@@ -110,24 +92,5 @@ returns-2 c =
 
 pub settle-names-spec : {M : Type 1} → statement M
 settle-names-spec =
-    tie.close
-    (tie.spec
-    Inv-loop
-    μ-loop
-    waiting-end-requires
-    loop-holds
-    sub-a
-    mul-a
-    slice-read-a
-    sub-a-2
-    is-visible-requires
-    same-length
-    returns
-    sub-entries
-    mul-entries
-    slice-write-entries
-    sub-k
-    loop-less
-    loop-again
-    same-length-2
-    returns-2)
+    tie.close (tie.spec Inv-loop μ-loop (λ c κs. search needs) loop-holds (λ c. search needs) mul-a slice-read-a sub-a-2 (λ c κs. search needs)
+    same-length returns (λ c. search needs) mul-entries slice-write-entries (λ c. search needs) (λ c. search needs) loop-again same-length-2 returns-2)

@@ -8,12 +8,6 @@ use native.Mathlib.Omega.{arith}
 use Rattle.scope.proofs.turn.Statement.{statement}
 use Rattle.scope.proofs.turn.Tie as tie
 
-ends-op-requires : tie.Need-ends-op-requires
-ends-op-requires c κs = search needs
-
-settle-names-requires : tie.Need-settle-names-requires
-settle-names-requires c κs = search needs
-
 place-name-requires : tie.Need-place-name-requires
 place-name-requires c κs =
     let s = c .before .before .before .before .before .settle-names .ensures in
@@ -38,9 +32,6 @@ returns-2 c =
     let a = c .before .before .before .before .before .before .before .before .before .before .args in
     rescope (simp (← c .before .before .before .before .before .before .before .ends-op .ensures, c .before .before .before .before .before .before .if1 .taken)) (omega arith) (stops (c .before .before .before .before .settle-names .ensures) (placed (a .text .now) (a .role) (a .a)) (c .if2 .left))
 
-place-name-requires-2 : tie.Need-place-name-requires-2
-place-name-requires-2 c κs = search needs
-
 same-length-3 : tie.Need-same-length-3
 same-length-3 c = c .before .before .place-name2 .ensures .size
 
@@ -50,15 +41,5 @@ returns-3 c = rescope (simp (← c .before .before .before .before .before .ends
 
 pub turn-spec : {M : Type 1} → statement M
 turn-spec =
-    tie.close
-    (tie.spec
-    ends-op-requires
-    settle-names-requires
-    place-name-requires
-    same-length
-    returns
-    same-length-2
-    returns-2
-    place-name-requires-2
-    same-length-3
-    returns-3)
+    tie.close (tie.spec (λ c κs. search needs) (λ c κs. search needs) place-name-requires same-length returns same-length-2 returns-2
+    (λ c κs. search needs) same-length-3 returns-3)

@@ -6,14 +6,5 @@ use Rattle.shown_shapes.proofs.FitLaw.{reduced-stretches}
 reduce-requires : tie.Need-reduce-requires
 reduce-requires c κs = reduced-stretches _ _ _ _ (c .before .before .before .before .pre .0) (c .before .before .before .before .pre .1) _ (c .before .before .before .before .pre .2)
 
-show-requires : tie.Need-show-requires
-show-requires c κs = search needs
-
-same-length : tie.Need-same-length
-same-length c = search needs
-
-returns : tie.Need-returns
-returns c = search needs
-
 pub reduce-spec : {M : Type 1} → statement M
-reduce-spec = tie.close (tie.spec reduce-requires show-requires same-length returns)
+reduce-spec = tie.close (tie.spec reduce-requires (λ c κs. search needs) (λ c. search needs) (λ c. search needs))

@@ -19,12 +19,6 @@ Inv-loop symbol text at stack₀ top₀ place₀ left₀ stack top place left =
 abbrev μ-loop : tie.MeasureT-loop
 μ-loop symbol text at stack₀ top₀ place₀ left₀ stack top place left = left
 
-start-requires : tie.Need-start-requires Inv-loop μ-loop
-start-requires c κs = search needs
-
-add-left : tie.Need-add-left Inv-loop μ-loop
-add-left c = search needs
-
 loop-holds : tie.Need-loop-holds Inv-loop μ-loop
 unfolding readingsOf
 loop-holds c =
@@ -64,12 +58,6 @@ returns-2 c =
     let n = l .inv .2 in
     sym (ap faultIn (turn-wrong (l .left) (l .top) (l .stack) _ (l .place) _ _ (omega arith) (omega arith) (r .ensures) (not-true _ (c .if2 .taken)))) ∙ l .inv .0
 
-sub-left : tie.Need-sub-left Inv-loop μ-loop
-sub-left c = search needs
-
-loop-less : tie.Need-loop-less Inv-loop μ-loop
-loop-less c = search needs
-
 loop-again : tie.Need-loop-again Inv-loop μ-loop
 unfolding faultIn
 loop-again c =
@@ -94,20 +82,5 @@ returns-3 c =
 
 pub fault-of-spec : {M : Type 1} → statement M
 fault-of-spec =
-    tie.close
-    (tie.spec
-    Inv-loop
-    μ-loop
-    start-requires
-    add-left
-    loop-holds
-    same-length
-    returns
-    read-token-requires
-    same-length-2
-    returns-2
-    sub-left
-    loop-less
-    loop-again
-    same-length-3
-    returns-3)
+    tie.close (tie.spec Inv-loop μ-loop (λ c κs. search needs) (λ c. search needs) loop-holds same-length returns read-token-requires same-length-2
+    returns-2 (λ c. search needs) (λ c. search needs) loop-again same-length-3 returns-3)

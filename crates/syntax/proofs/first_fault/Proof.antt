@@ -12,9 +12,6 @@ returns : tie.Need-returns
 unfolding firstFault
 returns c = simp (lt-ltb _ _ (c .if1 .taken))
 
-slice-aggregate-fault-of : tie.Need-slice-aggregate-fault-of
-slice-aggregate-fault-of c = search needs
-
 fault-of-requires : tie.Need-fault-of-requires
 fault-of-requires c κs = (search needs, length-replicate {A = ℕ} 655380 0)
 
@@ -23,5 +20,4 @@ unfolding firstFault grammarFault readings
 returns-2 c = simp (← c .before .fault-of .ensures, le-ltb _ _ (c .before .before .before .if1 .left))
 
 pub first-fault-spec : {M : Type 1} → statement M
-first-fault-spec =
-    tie.close (tie.spec returns slice-aggregate-fault-of fault-of-requires returns-2)
+first-fault-spec = tie.close (tie.spec returns (λ c. search needs) fault-of-requires returns-2)

@@ -10,32 +10,17 @@ returns : tie.Need-returns
 unfolding kindOf tokenKind
 returns c = simp (eq-eqb _ _ (c .if1 .taken))
 
-word-kind-requires : tie.Need-word-kind-requires
-word-kind-requires c κs = search needs
-
 returns-2 : tie.Need-returns-2
 unfolding kindOf tokenKind
 returns-2 c = simp (← c .word-kind .ensures, eq-eqb _ _ (c .before .if2 .taken), ne-eqb _ _ (c .before .before .before .if1 .left))
-
-byte-at-requires : tie.Need-byte-at-requires
-byte-at-requires c κs = search needs
-
-name-kind-requires : tie.Need-name-kind-requires
-name-kind-requires c κs = search needs
 
 returns-3 : tie.Need-returns-3
 unfolding kindOf tokenKind
 returns-3 c = simp (← c .name-kind .ensures, ← c .before .byte-at .ensures, eq-eqb _ _ (c .before .before .if3 .taken), ne-eqb _ _ (c .before .before .before .before .if2 .left), ne-eqb _ _ (c .before .before .before .before .before .before .if1 .left))
 
-quoted-kind-requires : tie.Need-quoted-kind-requires
-quoted-kind-requires c κs = search needs
-
 returns-4 : tie.Need-returns-4
 unfolding kindOf tokenKind
 returns-4 c = simp (← c .quoted-kind .ensures, eq-eqb _ _ (c .before .if4 .taken), ne-eqb _ _ (c .before .before .before .if3 .left), ne-eqb _ _ (c .before .before .before .before .before .if2 .left), ne-eqb _ _ (c .before .before .before .before .before .before .before .if1 .left))
-
-mark-kind-requires : tie.Need-mark-kind-requires
-mark-kind-requires c κs = search needs
 
 returns-5 : tie.Need-returns-5
 unfolding kindOf tokenKind
@@ -43,15 +28,5 @@ returns-5 c = simp (← c .mark-kind .ensures, ne-eqb _ _ (c .before .if4 .left)
 
 pub kind-of-spec : {M : Type 1} → statement M
 kind-of-spec =
-    tie.close
-    (tie.spec
-    returns
-    word-kind-requires
-    returns-2
-    byte-at-requires
-    name-kind-requires
-    returns-3
-    quoted-kind-requires
-    returns-4
-    mark-kind-requires
-    returns-5)
+    tie.close (tie.spec returns (λ c κs. search needs) returns-2 (λ c κs. search needs) (λ c κs. search needs) returns-3 (λ c κs. search needs)
+    returns-4 (λ c κs. search needs) returns-5)

@@ -20,9 +20,6 @@ mark-right : (l : List ℕ) → length l ≡ 256 → T (every markTest 0 l) → 
 unfolding markTest
 mark-right l n t b h = eqb→eq _ _ (at 0 markTest l t b (omega arith))
 
-array-read-result : tie.Need-array-read-result
-array-read-result c = search needs
-
 sub-result : tie.Need-sub-result
 unfolding markTest markKind
 sub-result c = rw (mark-right _ refl tt (c .args .kind) (search needs)) (omega arith)
@@ -32,4 +29,4 @@ unfolding markTest markKind
 returns c = rw (mark-right _ refl tt (c .args .kind) (search needs)) (omega arith)
 
 pub mark-kind-spec : {M : Type 1} → statement M
-mark-kind-spec = tie.close (tie.spec array-read-result sub-result returns)
+mark-kind-spec = tie.close (tie.spec (λ c. search needs) sub-result returns)

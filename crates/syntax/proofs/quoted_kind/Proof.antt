@@ -5,15 +5,9 @@ use Rattle.syntax.specs.Kinds.{quotedKind}
 use Rattle.syntax.proofs.quoted_kind.Statement.{statement}
 use Rattle.syntax.proofs.quoted_kind.Tie as tie
 
-is-func-return-requires : tie.Need-is-func-return-requires
-is-func-return-requires c κs = search needs
-
 returns : tie.Need-returns
 unfolding quotedKind
 returns c = simp (c .if1 .taken, ← c .before .is-func-return .ensures)
-
-is-body-return-requires : tie.Need-is-body-return-requires
-is-body-return-requires c κs = search needs
 
 returns-2 : tie.Need-returns-2
 unfolding quotedKind
@@ -24,11 +18,4 @@ unfolding quotedKind
 returns-3 c = simp (c .if2 .left, ← c .before .is-body-return .ensures, c .before .before .if1 .left, ← c .before .before .before .is-func-return .ensures)
 
 pub quoted-kind-spec : {M : Type 1} → statement M
-quoted-kind-spec =
-    tie.close
-    (tie.spec
-    is-func-return-requires
-    returns
-    is-body-return-requires
-    returns-2
-    returns-3)
+quoted-kind-spec = tie.close (tie.spec (λ c κs. search needs) returns (λ c κs. search needs) returns-2 returns-3)

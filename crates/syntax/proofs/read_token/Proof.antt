@@ -4,18 +4,6 @@ use borrow.Author.Needs.{needs}
 use Rattle.syntax.proofs.read_token.Statement.{statement}
 use Rattle.syntax.proofs.read_token.Tie as tie
 
-token-at-requires : tie.Need-token-at-requires
-token-at-requires c κs = search needs
-
-kind-of-requires : tie.Need-kind-of-requires
-kind-of-requires c κs = search needs
-
-advance-requires : tie.Need-advance-requires
-advance-requires c κs = search needs
-
-same-length : tie.Need-same-length
-same-length c = search needs
-
 returns : tie.Need-returns
 returns c =
     let t = c .before .before .before .before .before .token-at in
@@ -23,5 +11,4 @@ returns c =
     record { token = t .ensures; step = rw (← t .ensures, ← k .ensures) (c .before .before .advance .ensures) }
 
 pub read-token-spec : {M : Type 1} → statement M
-read-token-spec =
-    tie.close (tie.spec token-at-requires kind-of-requires advance-requires same-length returns)
+read-token-spec = tie.close (tie.spec (λ c κs. search needs) (λ c κs. search needs) (λ c κs. search needs) (λ c. search needs) returns)

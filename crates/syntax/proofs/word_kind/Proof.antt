@@ -5,50 +5,29 @@ use Rattle.syntax.specs.Kinds.{wordKind}
 use Rattle.syntax.proofs.word_kind.Statement.{statement}
 use Rattle.syntax.proofs.word_kind.Tie as tie
 
-is-array-requires : tie.Need-is-array-requires
-is-array-requires c κs = search needs
-
 returns : tie.Need-returns
 unfolding wordKind
 returns c = simp (c .if1 .taken, ← c .before .is-array .ensures)
-
-is-dense-requires : tie.Need-is-dense-requires
-is-dense-requires c κs = search needs
 
 returns-2 : tie.Need-returns-2
 unfolding wordKind
 returns-2 c = simp (c .if2 .taken, ← c .before .is-dense .ensures, c .before .before .if1 .left, ← c .before .before .before .is-array .ensures)
 
-is-true-requires : tie.Need-is-true-requires
-is-true-requires c κs = search needs
-
 returns-3 : tie.Need-returns-3
 unfolding wordKind
 returns-3 c = simp (c .if3 .taken, ← c .before .is-true .ensures, c .before .before .if2 .left, ← c .before .before .before .is-dense .ensures, c .before .before .before .before .if1 .left, ← c .before .before .before .before .before .is-array .ensures)
-
-is-false-requires : tie.Need-is-false-requires
-is-false-requires c κs = search needs
 
 returns-4 : tie.Need-returns-4
 unfolding wordKind
 returns-4 c = simp (c .if4 .taken, ← c .before .is-false .ensures, c .before .before .if3 .left, ← c .before .before .before .is-true .ensures, c .before .before .before .before .if2 .left, ← c .before .before .before .before .before .is-dense .ensures, c .before .before .before .before .before .before .if1 .left, ← c .before .before .before .before .before .before .before .is-array .ensures)
 
-is-i64-requires : tie.Need-is-i64-requires
-is-i64-requires c κs = search needs
-
 returns-5 : tie.Need-returns-5
 unfolding wordKind
 returns-5 c = simp (c .if5 .taken, ← c .before .is-i64 .ensures, c .before .before .if4 .left, ← c .before .before .before .is-false .ensures, c .before .before .before .before .if3 .left, ← c .before .before .before .before .before .is-true .ensures, c .before .before .before .before .before .before .if2 .left, ← c .before .before .before .before .before .before .before .is-dense .ensures, c .before .before .before .before .before .before .before .before .if1 .left, ← c .before .before .before .before .before .before .before .before .before .is-array .ensures)
 
-is-token-requires : tie.Need-is-token-requires
-is-token-requires c κs = search needs
-
 returns-6 : tie.Need-returns-6
 unfolding wordKind
 returns-6 c = simp (c .if6 .taken, ← c .before .is-token .ensures, c .before .before .if5 .left, ← c .before .before .before .is-i64 .ensures, c .before .before .before .before .if4 .left, ← c .before .before .before .before .before .is-false .ensures, c .before .before .before .before .before .before .if3 .left, ← c .before .before .before .before .before .before .before .is-true .ensures, c .before .before .before .before .before .before .before .before .if2 .left, ← c .before .before .before .before .before .before .before .before .before .is-dense .ensures, c .before .before .before .before .before .before .before .before .before .before .if1 .left, ← c .before .before .before .before .before .before .before .before .before .before .before .is-array .ensures)
-
-is-tuple-requires : tie.Need-is-tuple-requires
-is-tuple-requires c κs = search needs
 
 returns-7 : tie.Need-returns-7
 unfolding wordKind
@@ -60,20 +39,5 @@ returns-8 c = simp (c .if7 .left, ← c .before .is-tuple .ensures, c .before .b
 
 pub word-kind-spec : {M : Type 1} → statement M
 word-kind-spec =
-    tie.close
-    (tie.spec
-    is-array-requires
-    returns
-    is-dense-requires
-    returns-2
-    is-true-requires
-    returns-3
-    is-false-requires
-    returns-4
-    is-i64-requires
-    returns-5
-    is-token-requires
-    returns-6
-    is-tuple-requires
-    returns-7
-    returns-8)
+    tie.close (tie.spec (λ c κs. search needs) returns (λ c κs. search needs) returns-2 (λ c κs. search needs) returns-3 (λ c κs. search needs)
+    returns-4 (λ c κs. search needs) returns-5 (λ c κs. search needs) returns-6 (λ c κs. search needs) returns-7 returns-8)

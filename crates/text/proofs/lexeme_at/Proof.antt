@@ -38,8 +38,6 @@ returns-8 c = simp (lt-leb _ _ (c .before .before .before .before .before .befor
 
 pub lexeme-at-spec : {M : Type 1} → statement M
 lexeme-at-spec =
-    tie.close
-    (tie.spec
-    returns (λ c. search needs) (λ c κs. search needs) (λ c κs. search needs) returns-2 (λ c κs. search needs) (λ c κs. search needs) returns-3
-    (λ c κs. search needs) (λ c κs. search needs) returns-4 (λ c κs. search needs) (λ c κs. search needs) returns-5 (λ c κs. search needs) returns-6
-    (λ c κs. search needs) (λ c. search needs) returns-7 (λ c κs. search needs) returns-8)
+    tie.close (tie.spec returns (λ c. search needs) (λ c κs. search needs) (λ c κs. search needs) returns-2 (λ c κs. search needs)
+    (λ c κs. search needs) returns-3 (λ c κs. search needs) (λ c κs. search needs) returns-4 (λ c κs. search needs) (λ c κs. search needs) returns-5
+    (λ c κs. search needs) returns-6 (λ c κs. search needs) (λ c. search needs) returns-7 (λ c κs. search needs) returns-8)

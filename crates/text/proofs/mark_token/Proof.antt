@@ -13,6 +13,4 @@ returns-2 c = simp (← c .before .is-between .ensures, c .if1 .left)
 
 pub mark-token-spec : {M : Type 1} → statement M
 mark-token-spec =
-    tie.close
-    (tie.spec
-    (λ c. search needs) (λ c κs. search needs) (λ c. search needs) (λ c. search needs) returns (λ c. search needs) returns-2)
+    tie.close (tie.spec (λ c. search needs) (λ c κs. search needs) (λ c. search needs) (λ c. search needs) returns (λ c. search needs) returns-2)

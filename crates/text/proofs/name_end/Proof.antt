@@ -18,6 +18,4 @@ returns-3 c = simp (← c .before .before .before .before .byte-at .ensures, ←
 
 pub name-end-spec : {M : Type 1} → statement M
 name-end-spec =
-    tie.close
-    (tie.spec
-    (λ c κs. search needs) (λ c κs. search needs) (λ c κs. search needs) returns returns-2 (λ c κs. search needs) returns-3)
+    tie.close (tie.spec (λ c κs. search needs) (λ c κs. search needs) (λ c κs. search needs) returns returns-2 (λ c κs. search needs) returns-3)

@@ -14,6 +14,4 @@ returns-2 c = simp (← c .before .name-end .ensures, ne-eqb _ _ (c .if1 .left))
 
 pub name-token-spec : {M : Type 1} → statement M
 name-token-spec =
-    tie.close
-    (tie.spec
-    (λ c. search needs) (λ c. search needs) (λ c κs. search needs) (λ c. search needs) (λ c κs. search needs) returns returns-2)
+    tie.close (tie.spec (λ c. search needs) (λ c. search needs) (λ c κs. search needs) (λ c. search needs) (λ c κs. search needs) returns returns-2)

@@ -8,5 +8,4 @@ unfolding plainWord
 returns c = simp (← c .run-end .ensures)
 
 pub plain-word-spec : {M : Type 1} → statement M
-plain-word-spec = tie.close (tie.spec
-    (λ c κs. search needs) returns)
+plain-word-spec = tie.close (tie.spec (λ c κs. search needs) returns)

@@ -27,7 +27,5 @@ returns-3 c = simp (← c .before .before .before .before .before .word-end .ens
 
 pub quote-token-spec : {M : Type 1} → statement M
 quote-token-spec =
-    tie.close
-    (tie.spec
-    (λ c. search needs) (λ c κs. search needs) (λ c κs. search needs) (λ c κs. search needs) returns add-word-end-2 (λ c κs. search needs)
-    (λ c κs. search needs) (λ c κs. search needs) returns-2 add-t5 returns-3)
+    tie.close (tie.spec (λ c. search needs) (λ c κs. search needs) (λ c κs. search needs) (λ c κs. search needs) returns add-word-end-2
+    (λ c κs. search needs) (λ c κs. search needs) (λ c κs. search needs) returns-2 add-t5 returns-3)

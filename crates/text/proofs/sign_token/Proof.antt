@@ -17,7 +17,5 @@ returns-3 c = simp (← c .before .before .before .before .before .byte-at .ensu
 
 pub sign-token-spec : {M : Type 1} → statement M
 sign-token-spec =
-    tie.close
-    (tie.spec
-    (λ c. search needs) (λ c κs. search needs) (λ c κs. search needs) (λ c. search needs) (λ c κs. search needs) returns (λ c κs. search needs)
-    (λ c. search needs) returns-2 (λ c κs. search needs) returns-3)
+    tie.close (tie.spec (λ c. search needs) (λ c κs. search needs) (λ c κs. search needs) (λ c. search needs) (λ c κs. search needs) returns
+    (λ c κs. search needs) (λ c. search needs) returns-2 (λ c κs. search needs) returns-3)

@@ -25,7 +25,4 @@ unfolding tensorToken
 returns-2 c = simp (← c .before .before .before .type-close .ensures, ← c .before .before .byte-at .ensures, ne-eqb _ _ (c .before .if1 .left), ← c .plain-word .ensures)
 
 pub tensor-token-spec : {M : Type 1} → statement M
-tensor-token-spec =
-    tie.close
-    (tie.spec
-    add-type-close (λ c κs. search needs) (λ c κs. search needs) add-t7 returns (λ c κs. search needs) returns-2)
+tensor-token-spec = tie.close (tie.spec add-type-close (λ c κs. search needs) (λ c κs. search needs) add-t7 returns (λ c κs. search needs) returns-2)

@@ -8,5 +8,4 @@ unfolding tokenAt
 returns c = simp (← c .before .skip .ensures, ← c .lexeme-at .ensures)
 
 pub token-at-spec : {M : Type 1} → statement M
-token-at-spec = tie.close (tie.spec
-    (λ c κs. search needs) (λ c κs. search needs) returns)
+token-at-spec = tie.close (tie.spec (λ c κs. search needs) (λ c κs. search needs) returns)

@@ -30,6 +30,4 @@ returns-3 c = simp (← c .before .before .before .before .opens-func .ensures, 
 
 pub word-token-spec : {M : Type 1} → statement M
 word-token-spec =
-    tie.close
-    (tie.spec
-    (λ c κs. search needs) add-t4 returns (λ c κs. search needs) tensor-token-requires returns-2 (λ c κs. search needs) returns-3)
+    tie.close (tie.spec (λ c κs. search needs) add-t4 returns (λ c κs. search needs) tensor-token-requires returns-2 (λ c κs. search needs) returns-3)

@@ -13,10 +13,6 @@ use Rattle.typing.specs.Typing.{typesOf}
 use borrow.Author.Needs.{needs}
 use Rattle.typing.proofs.types_of.Statement.{statement}
 use Rattle.typing.proofs.types_of.Tie as tie
-use Rattle.typing.proofs.types_of.Reads as reads
-use Rattle.typing.proofs.types_of.Lts as lts
-use Rattle.places.proofs.blank_type.Reads as blank-type-reads
-use Rattle.typing.proofs.type_at.Reads as type-at-reads
 
 abbrev Inv-loop : tie.InvT-loop
 Inv-loop text op types₀ j₀ types j = (j ≤ 8) × (types ≡ tab j (typesOf text op) ++ drop j types₀)
@@ -24,35 +20,9 @@ Inv-loop text op types₀ j₀ types j = (j ≤ 8) × (types ≡ tab j (typesOf 
 abbrev μ-loop : tie.MeasureT-loop
 μ-loop text op types₀ j₀ types j = 8 - j
 
--- src/lib.rt:117:9
-blank-type-requires : tie.Need-blank-type-requires Inv-loop μ-loop
-blank-type-requires c κs = search needs
-
--- src/lib.rt:119:5
 loop-holds : tie.Need-loop-holds Inv-loop μ-loop
 loop-holds c = (omega arith, refl)
 
--- src/lib.rt:120:13
-type-at-requires : tie.Need-type-at-requires Inv-loop μ-loop
-type-at-requires c κs = search needs
-
--- src/lib.rt:121:9
-mul-types : tie.Need-mul-types Inv-loop μ-loop
-mul-types c = search needs
-
--- src/lib.rt:121:9
-array-set-from-types : tie.Need-array-set-from-types Inv-loop μ-loop
-array-set-from-types c = search needs
-
--- src/lib.rt:119:9
-add-j : tie.Need-add-j Inv-loop μ-loop
-add-j c = search needs
-
--- src/lib.rt:119:5
-loop-less : tie.Need-loop-less Inv-loop μ-loop
-loop-less c = search needs
-
--- src/lib.rt:119:5
 loop-again : tie.Need-loop-again Inv-loop μ-loop
 loop-again c =
     let a = c .before .before .before .before .before .args in
@@ -63,7 +33,6 @@ loop-again c =
       ap (λ (l : List TensorType). set l j (c .type-at .result)) (v .1) ∙ fill-step j (typesOf (now (a .text)) (a .op)) l (c .type-at .result) (omega arith) (c .type-at .ensures),
     )
 
--- src/lib.rt:114:1
 returns : tie.Need-returns Inv-loop μ-loop
 returns c =
     let a = c .before .before .before .before .args in
@@ -74,16 +43,5 @@ returns c =
 
 pub types-of-spec : {M : Type 1} → statement M
 types-of-spec =
-    tie.close
-    (tie.spec
-    Inv-loop
-    μ-loop
-    blank-type-requires
-    loop-holds
-    type-at-requires
-    mul-types
-    array-set-from-types
-    add-j
-    loop-less
-    loop-again
-    returns)
+    tie.close (tie.spec Inv-loop μ-loop (λ c κs. search needs) loop-holds (λ c κs. search needs) (λ c. search needs) (λ c. search needs)
+    (λ c. search needs) (λ c. search needs) loop-again returns)

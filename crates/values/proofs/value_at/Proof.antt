@@ -25,13 +25,5 @@ returns-2 c = simp (← c .result-value .ensures, ← c .before .op-at .ensures,
 
 pub value-at-spec : {M : Type 1} → statement M
 value-at-spec =
-    tie.close
-    (tie.spec
-    (λ c κs. search needs)
-    input-value-requires
-    returns
-    mul-op-at
-    array-read-op-at
-    (λ c κs. search needs)
-    (λ c κs. search needs)
+    tie.close (tie.spec (λ c κs. search needs) input-value-requires returns mul-op-at array-read-op-at (λ c κs. search needs) (λ c κs. search needs)
     returns-2)

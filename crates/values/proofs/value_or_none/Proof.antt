@@ -23,12 +23,4 @@ returns-2 c = simp (← c .no-value .ensures, le-ltb _ _ (c .before .if1 .left),
 
 pub value-or-none-spec : {M : Type 1} → statement M
 value-or-none-spec =
-    tie.close
-    (tie.spec
-    (λ c κs. search needs)
-    (λ c κs. search needs)
-    add-if1
-    (λ c κs. search needs)
-    returns
-    (λ c κs. search needs)
-    returns-2)
+    tie.close (tie.spec (λ c κs. search needs) (λ c κs. search needs) add-if1 (λ c κs. search needs) returns (λ c κs. search needs) returns-2)

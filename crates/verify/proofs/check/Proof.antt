@@ -4,28 +4,17 @@ use Rattle.verify.proofs.VerifyLaw.{few-bytes}
 use borrow.Author.Needs.{needs}
 use Rattle.verify.proofs.check.Statement.{statement}
 use Rattle.verify.proofs.check.Tie as tie
-use Rattle.verify.proofs.check.Reads as reads
-use Rattle.verify.proofs.check.Lts as lts
-use Rattle.judge.proofs.read_refusal.Reads as read-refusal-reads
-use Rattle.verify.proofs.checked.Reads as checked-reads
 
--- src/lib.rt:178:9
-read-refusal-requires : tie.Need-read-refusal-requires
-read-refusal-requires c κs = search needs
-
--- src/lib.rt:180:9
 checked-requires : tie.Need-checked-requires
 checked-requires c κs = few-bytes (c .before .before .before .before .args .text .now) (rw (← c .before .before .read-refusal .ensures) (c .if1 .taken))
 
--- src/lib.rt:180:9
 returns : tie.Need-returns
 unfolding verdict
 returns c = simp (← c .checked .ensures, ← c .before .before .before .read-refusal .ensures, eq-eqb _ _ (c .before .if1 .taken))
 
--- src/lib.rt:175:1
 returns-2 : tie.Need-returns-2
 unfolding verdict
 returns-2 c = simp (← c .before .before .read-refusal .ensures, ne-eqb _ _ (c .if1 .left))
 
 pub check-spec : {M : Type 1} → statement M
-check-spec = tie.close (tie.spec read-refusal-requires checked-requires returns returns-2)
+check-spec = tie.close (tie.spec (λ c κs. search needs) checked-requires returns returns-2)

@@ -4,22 +4,9 @@ use Rattle.verify.proofs.VerifyLaw.{sizes-within}
 use borrow.Author.Needs.{needs}
 use Rattle.verify.proofs.ops_refusal.Statement.{statement}
 use Rattle.verify.proofs.ops_refusal.Tie as tie
-use Rattle.verify.proofs.ops_refusal.Reads as reads
-use Rattle.verify.proofs.ops_refusal.Lts as lts
-use Rattle.opwise.proofs.first_refused.Reads as first-refused-reads
-use Rattle.verify.proofs.within_sizes.Reads as within-sizes-reads
-
-within-sizes-requires : tie.Need-within-sizes-requires
-within-sizes-requires c κs = search needs
 
 first-refused-requires : tie.Need-first-refused-requires
 first-refused-requires c κs = let s = c .before .before .before .before .before .before .before in (sizes-within _ _ (sym (c .before .before .before .within-sizes .ensures) ∙ c .before .before .if1 .taken) .1, s .pre .0, s .pre .2)
-
-same-length : tie.Need-same-length
-same-length c = search needs
-
-same-length-2 : tie.Need-same-length-2
-same-length-2 c = search needs
 
 returns : tie.Need-returns
 unfolding opsRefusal
@@ -30,12 +17,4 @@ unfolding opsRefusal
 returns-2 c = simp (← c .before .within-sizes .ensures, c .if1 .left)
 
 pub ops-refusal-spec : {M : Type 1} → statement M
-ops-refusal-spec =
-    tie.close
-    (tie.spec
-    within-sizes-requires
-    first-refused-requires
-    same-length
-    same-length-2
-    returns
-    returns-2)
+ops-refusal-spec = tie.close (tie.spec (λ c κs. search needs) first-refused-requires (λ c. search needs) (λ c. search needs) returns returns-2)

@@ -6,9 +6,6 @@ use borrow.Author.Needs.{needs}
 use Rattle.judge.proofs.sizes.is_long_list.Statement.{statement}
 use Rattle.judge.proofs.sizes.is_long_list.Tie as tie
 
-item-number-requires : tie.Need-item-number-requires
-item-number-requires c κs = search needs
-
 returns : tie.Need-returns
 unfolding longList
 returns c = simp (← c .item-number .ensures, eq-eqb _ _ (c .before .if1 .taken))
@@ -18,4 +15,4 @@ unfolding longList
 returns-2 c = simp (ne-eqb _ _ (c .if1 .left))
 
 pub is-long-list-spec : {M : Type 1} → statement M
-is-long-list-spec = tie.close (tie.spec item-number-requires returns returns-2)
+is-long-list-spec = tie.close (tie.spec (λ c κs. search needs) returns returns-2)

@@ -9,9 +9,6 @@ use Rattle.judge.specs.Sizes.{longName}
 use Rattle.judge.proofs.sizes.is_long_name.Statement.{statement}
 use Rattle.judge.proofs.sizes.is_long_name.Tie as tie
 
-sub-result : tie.Need-sub-result
-sub-result c = search needs
-
 returns : tie.Need-returns
 unfolding longName
 returns c = simp (eq-eqb _ _ (c .before .before .before .if1 .taken))
@@ -28,4 +25,4 @@ unfolding longName
 returns-3 c = simp (ne-eqb _ _ (c .if1 .left))
 
 pub is-long-name-spec : {M : Type 1} → statement M
-is-long-name-spec = tie.close (tie.spec sub-result returns returns-2 returns-3)
+is-long-name-spec = tie.close (tie.spec (λ c. search needs) returns returns-2 returns-3)

@@ -8,9 +8,6 @@ use Rattle.judge.proofs.TallyLaw.{elements-le}
 use Rattle.judge.proofs.sizes.many_elements.Statement.{statement}
 use Rattle.judge.proofs.sizes.many_elements.Tie as tie
 
-elements-at-requires : tie.Need-elements-at-requires
-elements-at-requires c κs = search needs
-
 add-result : tie.Need-add-result
 add-result c =
     let l : c .before .elements-at .result ≤ 4096 = rw (c .before .elements-at .ensures) (elements-le _ _ _ _) in
@@ -22,4 +19,4 @@ unfolding manyElements
 returns c = simp (← c .before .elements-at .ensures)
 
 pub many-elements-spec : {M : Type 1} → statement M
-many-elements-spec = tie.close (tie.spec elements-at-requires add-result returns)
+many-elements-spec = tie.close (tie.spec (λ c κs. search needs) add-result returns)

@@ -5,12 +5,6 @@ use borrow.Author.Needs.{needs}
 use Rattle.judge.proofs.sizes.many_items.Statement.{statement}
 use Rattle.judge.proofs.sizes.many_items.Tie as tie
 
-is-listed-requires : tie.Need-is-listed-requires
-is-listed-requires c κs = search needs
-
-item-number-requires : tie.Need-item-number-requires
-item-number-requires c κs = search needs
-
 returns : tie.Need-returns
 unfolding manyItems
 returns c = simp (← c .item-number .ensures, c .before .if1 .taken, ← c .before .before .is-listed .ensures)
@@ -20,4 +14,4 @@ unfolding manyItems
 returns-2 c = simp (c .if1 .left, ← c .before .is-listed .ensures)
 
 pub many-items-spec : {M : Type 1} → statement M
-many-items-spec = tie.close (tie.spec is-listed-requires item-number-requires returns returns-2)
+many-items-spec = tie.close (tie.spec (λ c κs. search needs) (λ c κs. search needs) returns returns-2)

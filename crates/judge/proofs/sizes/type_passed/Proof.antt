@@ -5,12 +5,6 @@ use Rattle.judge.specs.Sizes.{typePassed}
 use Rattle.judge.proofs.sizes.type_passed.Statement.{statement}
 use Rattle.judge.proofs.sizes.type_passed.Tie as tie
 
-is-type-requires : tie.Need-is-type-requires
-is-type-requires c κs = search needs
-
-type-at-requires : tie.Need-type-at-requires
-type-at-requires c κs = search needs
-
 returns : tie.Need-returns
 unfolding typePassed
 returns c = simp (← c .before .before .is-type .ensures, c .before .if1 .taken, ← c .type-at .ensures)
@@ -20,4 +14,4 @@ unfolding typePassed
 returns-2 c = simp (← c .before .is-type .ensures, c .if1 .left)
 
 pub type-passed-spec : {M : Type 1} → statement M
-type-passed-spec = tie.close (tie.spec is-type-requires type-at-requires returns returns-2)
+type-passed-spec = tie.close (tie.spec (λ c κs. search needs) (λ c κs. search needs) returns returns-2)

@@ -7,9 +7,6 @@ use borrow.Author.Needs.{needs}
 use Rattle.judge.proofs.tally.depth_after.Statement.{statement}
 use Rattle.judge.proofs.tally.depth_after.Tie as tie
 
-add-result : tie.Need-add-result
-add-result c = search needs
-
 returns : tie.Need-returns
 unfolding depthAfter
 returns c = simp (eq-eqb _ _ (c .before .if1 .taken))
@@ -17,9 +14,6 @@ returns c = simp (eq-eqb _ _ (c .before .if1 .taken))
 returns-2 : tie.Need-returns-2
 unfolding depthAfter
 returns-2 c = simp (eq-eqb _ _ (c .before .before .if2 .taken), ne-eqb _ _ (c .before .before .before .if1 .left)) (omega arith)
-
-sub-result : tie.Need-sub-result
-sub-result c = search needs
 
 returns-3 : tie.Need-returns-3
 unfolding depthAfter
@@ -30,4 +24,4 @@ unfolding depthAfter
 returns-4 c = simp (ne-eqb _ _ (c .if2 .left), ne-eqb _ _ (c .before .if1 .left))
 
 pub depth-after-spec : {M : Type 1} → statement M
-depth-after-spec = tie.close (tie.spec add-result returns returns-2 sub-result returns-3 returns-4)
+depth-after-spec = tie.close (tie.spec (λ c. search needs) returns returns-2 (λ c. search needs) returns-3 returns-4)

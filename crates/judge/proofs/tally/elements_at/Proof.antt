@@ -7,12 +7,6 @@ use Rattle.judge.proofs.TallyLaw.{read-sized}
 use Rattle.judge.proofs.tally.elements_at.Statement.{statement}
 use Rattle.judge.proofs.tally.elements_at.Tie as tie
 
-is-counted-requires : tie.Need-is-counted-requires
-is-counted-requires c κs = search needs
-
-type-at-requires : tie.Need-type-at-requires
-type-at-requires c κs = search needs
-
 size-of-requires : tie.Need-size-of-requires
 size-of-requires c κs = let x = c .before .before .before .before .type-at in read-sized _ _ (x .result) (x .ensures) (c .before .before .before .if2 .taken) (c .before .if3 .taken)
 
@@ -33,4 +27,4 @@ unfolding elementsAt
 returns-4 c = simp (← c .before .is-counted .ensures, c .if1 .left)
 
 pub elements-at-spec : {M : Type 1} → statement M
-elements-at-spec = tie.close (tie.spec is-counted-requires type-at-requires size-of-requires returns returns-2 returns-3 returns-4)
+elements-at-spec = tie.close (tie.spec (λ c κs. search needs) (λ c κs. search needs) size-of-requires returns returns-2 returns-3 returns-4)

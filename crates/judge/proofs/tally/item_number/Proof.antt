@@ -5,9 +5,6 @@ use borrow.Author.Needs.{needs}
 use Rattle.judge.proofs.tally.item_number.Statement.{statement}
 use Rattle.judge.proofs.tally.item_number.Tie as tie
 
-add-result : tie.Need-add-result
-add-result c = search needs
-
 returns : tie.Need-returns
 unfolding itemNumber
 returns c = simp (c .before .if1 .taken)
@@ -17,4 +14,4 @@ unfolding itemNumber
 returns-2 c = search needs
 
 pub item-number-spec : {M : Type 1} → statement M
-item-number-spec = tie.close (tie.spec add-result returns returns-2)
+item-number-spec = tie.close (tie.spec (λ c. search needs) returns returns-2)

@@ -5,12 +5,6 @@ use borrow.Author.Needs.{needs}
 use Rattle.judge.proofs.tally.items_after.Statement.{statement}
 use Rattle.judge.proofs.tally.items_after.Tie as tie
 
-is-item-requires : tie.Need-is-item-requires
-is-item-requires c κs = search needs
-
-item-number-requires : tie.Need-item-number-requires
-item-number-requires c κs = search needs
-
 returns : tie.Need-returns
 unfolding itemsAfter
 returns c = simp (← c .item-number .ensures, c .before .if1 .taken, ← c .before .before .is-item .ensures)
@@ -20,4 +14,4 @@ unfolding itemsAfter
 returns-2 c = simp (c .if1 .left, ← c .before .is-item .ensures)
 
 pub items-after-spec : {M : Type 1} → statement M
-items-after-spec = tie.close (tie.spec is-item-requires item-number-requires returns returns-2)
+items-after-spec = tie.close (tie.spec (λ c κs. search needs) (λ c κs. search needs) returns returns-2)

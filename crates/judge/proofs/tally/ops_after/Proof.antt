@@ -6,9 +6,6 @@ use borrow.Author.Needs.{needs}
 use Rattle.judge.proofs.tally.ops_after.Statement.{statement}
 use Rattle.judge.proofs.tally.ops_after.Tie as tie
 
-add-result : tie.Need-add-result
-add-result c = search needs
-
 returns : tie.Need-returns
 unfolding opsAfter
 returns c = simp (eq-eqb _ _ (c .before .if1 .taken))
@@ -18,4 +15,4 @@ unfolding opsAfter
 returns-2 c = simp (ne-eqb _ _ (c .if1 .left))
 
 pub ops-after-spec : {M : Type 1} → statement M
-ops-after-spec = tie.close (tie.spec add-result returns returns-2)
+ops-after-spec = tie.close (tie.spec (λ c. search needs) returns returns-2)

@@ -3,15 +3,9 @@ use borrow.Author.Needs.{needs}
 use Rattle.scan.proofs.bytes.in_run.Statement.{statement}
 use Rattle.scan.proofs.bytes.in_run.Tie as tie
 
-is-digit-requires : tie.Need-is-digit-requires
-is-digit-requires c κs = search needs
-
 returns : tie.Need-returns
 unfolding inRun
 returns c = simp (c .if1 .taken, ← c .before .is-digit .ensures)
-
-is-letter-requires : tie.Need-is-letter-requires
-is-letter-requires c κs = search needs
 
 returns-2 : tie.Need-returns-2
 unfolding inRun
@@ -22,4 +16,4 @@ unfolding inRun
 returns-3 c = simp (c .if2 .left, c .before .if1 .left, ← c .before .before .is-digit .ensures)
 
 pub in-run-spec : {M : Type 1} → statement M
-in-run-spec = tie.close (tie.spec is-digit-requires returns is-letter-requires returns-2 returns-3)
+in-run-spec = tie.close (tie.spec (λ c κs. search needs) returns (λ c κs. search needs) returns-2 returns-3)

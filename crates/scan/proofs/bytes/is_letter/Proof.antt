@@ -3,15 +3,9 @@ use borrow.Author.Needs.{needs}
 use Rattle.scan.proofs.bytes.is_letter.Statement.{statement}
 use Rattle.scan.proofs.bytes.is_letter.Tie as tie
 
-is-between-requires : tie.Need-is-between-requires
-is-between-requires c κs = search needs
-
 returns : tie.Need-returns
 unfolding isLetter
 returns c = simp (c .if1 .taken, ← c .before .is-between .ensures)
-
-is-between-requires-2 : tie.Need-is-between-requires-2
-is-between-requires-2 c κs = search needs
 
 returns-2 : tie.Need-returns-2
 unfolding isLetter
@@ -22,5 +16,4 @@ unfolding isLetter
 returns-3 c = simp (c .if2 .left, ← c .before .is-between2 .ensures, c .before .before .if1 .left, ← c .before .before .before .is-between .ensures)
 
 pub is-letter-spec : {M : Type 1} → statement M
-is-letter-spec =
-    tie.close (tie.spec is-between-requires returns is-between-requires-2 returns-2 returns-3)
+is-letter-spec = tie.close (tie.spec (λ c κs. search needs) returns (λ c κs. search needs) returns-2 returns-3)

@@ -13,21 +13,6 @@ Inv-loop text letters at i₀ i = runEnd letters text i ≡ runEnd letters text 
 abbrev μ-loop : tie.MeasureT-loop
 μ-loop text letters at i₀ i = length text - i
 
-loop-holds : tie.Need-loop-holds Inv-loop μ-loop
-loop-holds c = search needs
-
-shared-slice-read-in-run : tie.Need-shared-slice-read-in-run Inv-loop μ-loop
-shared-slice-read-in-run c = search needs
-
-in-run-requires : tie.Need-in-run-requires Inv-loop μ-loop
-in-run-requires c κs = search needs
-
-add-i : tie.Need-add-i Inv-loop μ-loop
-add-i c = search needs
-
-loop-less : tie.Need-loop-less Inv-loop μ-loop
-loop-less c = search needs
-
 loop-again : tie.Need-loop-again Inv-loop μ-loop
 loop-again c = run-more _ _ _ (c .before .before .before .loop-test .taken) (cc) ∙ c .before .before .before .before .loop .inv
 
@@ -39,15 +24,5 @@ returns-2 c = sym (run-past _ _ _ (c .loop-test .left)) ∙ c .before .loop .inv
 
 pub run-end-spec : {M : Type 1} → statement M
 run-end-spec =
-    tie.close
-    (tie.spec
-    Inv-loop
-    μ-loop
-    loop-holds
-    shared-slice-read-in-run
-    in-run-requires
-    add-i
-    loop-less
-    loop-again
-    returns
-    returns-2)
+    tie.close (tie.spec Inv-loop μ-loop (λ c. search needs) (λ c. search needs) (λ c κs. search needs) (λ c. search needs) (λ c. search needs)
+    loop-again returns returns-2)

@@ -14,43 +14,13 @@ Inv-loop text at i₀ comment₀ i comment = skipFrom comment i (drop i text) �
 abbrev μ-loop : tie.MeasureT-loop
 μ-loop text at i₀ comment₀ i comment = length text - i
 
-loop-holds : tie.Need-loop-holds Inv-loop μ-loop
-loop-holds c = search needs
-
-shared-slice-read-b : tie.Need-shared-slice-read-b Inv-loop μ-loop
-shared-slice-read-b c = search needs
-
-add-i : tie.Need-add-i Inv-loop μ-loop
-add-i c = search needs
-
-loop-less : tie.Need-loop-less Inv-loop μ-loop
-loop-less c = search needs
-
 loop-again : tie.Need-loop-again Inv-loop μ-loop
 unfolding inComment
 loop-again c = rw (← c .before .before .before .loop .inv, skip-step _ _ _ (c .before .before .loop-test .taken)) (simp (c .if1 .taken))
 
-opens-comment-requires : tie.Need-opens-comment-requires Inv-loop μ-loop
-opens-comment-requires c κs = search needs
-
-add-i-2 : tie.Need-add-i-2 Inv-loop μ-loop
-add-i-2 c = search needs
-
-loop-less-2 : tie.Need-loop-less-2 Inv-loop μ-loop
-loop-less-2 c = search needs
-
 loop-again-2 : tie.Need-loop-again-2 Inv-loop μ-loop
 unfolding inComment
 loop-again-2 c = rw (← c .before .before .before .before .before .loop .inv, skip-step _ _ _ (c .before .before .before .before .loop-test .taken)) (simp (c .before .before .if1 .left, ← c .before .opens-comment .ensures, c .if2 .taken))
-
-is-space-requires : tie.Need-is-space-requires Inv-loop μ-loop
-is-space-requires c κs = search needs
-
-add-i-3 : tie.Need-add-i-3 Inv-loop μ-loop
-add-i-3 c = search needs
-
-loop-less-3 : tie.Need-loop-less-3 Inv-loop μ-loop
-loop-less-3 c = search needs
 
 loop-again-3 : tie.Need-loop-again-3 Inv-loop μ-loop
 unfolding inComment
@@ -66,22 +36,6 @@ returns-2 c = sym (skip-past _ _ _ (c .loop-test .left)) ∙ c .before .loop .in
 
 pub skip-spec : {M : Type 1} → statement M
 skip-spec =
-    tie.close
-    (tie.spec
-    Inv-loop
-    μ-loop
-    loop-holds
-    shared-slice-read-b
-    add-i
-    loop-less
-    loop-again
-    opens-comment-requires
-    add-i-2
-    loop-less-2
-    loop-again-2
-    is-space-requires
-    add-i-3
-    loop-less-3
-    loop-again-3
-    returns
-    returns-2)
+    tie.close (tie.spec Inv-loop μ-loop (λ c. search needs) (λ c. search needs) (λ c. search needs) (λ c. search needs) loop-again
+    (λ c κs. search needs) (λ c. search needs) (λ c. search needs) loop-again-2 (λ c κs. search needs) (λ c. search needs) (λ c. search needs)
+    loop-again-3 returns returns-2)

@@ -7,14 +7,8 @@ use borrow.Author.Needs.{needs}
 use Rattle.scan.proofs.quantized.colon_end.Statement.{statement}
 use Rattle.scan.proofs.quantized.colon_end.Tie as tie
 
-byte-at-requires : tie.Need-byte-at-requires
-byte-at-requires c κs = search needs
-
 add-integer-end : tie.Need-add-integer-end
 add-integer-end c = omega (arith, byte-inside (now (c .before .before .before .args .text)) (c .before .before .before .args .at) (c .before .byte-at .ensures) (c .if1 .taken) (omega arith))
-
-integer-end-requires : tie.Need-integer-end-requires
-integer-end-requires c κs = search needs
 
 returns : tie.Need-returns
 unfolding colonEnd
@@ -25,5 +19,4 @@ unfolding colonEnd
 returns-2 c = simp (← c .before .byte-at .ensures, ne-eqb _ _ (c .if1 .left))
 
 pub colon-end-spec : {M : Type 1} → statement M
-colon-end-spec =
-    tie.close (tie.spec byte-at-requires add-integer-end integer-end-requires returns returns-2)
+colon-end-spec = tie.close (tie.spec (λ c κs. search needs) add-integer-end (λ c κs. search needs) returns returns-2)

@@ -7,14 +7,8 @@ use borrow.Author.Needs.{needs}
 use Rattle.scan.proofs.quantized.fraction_end.Statement.{statement}
 use Rattle.scan.proofs.quantized.fraction_end.Tie as tie
 
-byte-at-requires : tie.Need-byte-at-requires
-byte-at-requires c κs = search needs
-
 add-run-end : tie.Need-add-run-end
 add-run-end c = omega (arith, byte-inside (now (c .before .before .before .args .text)) (c .before .before .before .args .at) (c .before .byte-at .ensures) (c .if1 .taken) (omega arith))
-
-run-end-requires : tie.Need-run-end-requires
-run-end-requires c κs = search needs
 
 returns : tie.Need-returns
 unfolding fractionEnd
@@ -25,5 +19,4 @@ unfolding fractionEnd
 returns-2 c = simp (← c .before .byte-at .ensures, ne-eqb _ _ (c .if1 .left))
 
 pub fraction-end-spec : {M : Type 1} → statement M
-fraction-end-spec =
-    tie.close (tie.spec byte-at-requires add-run-end run-end-requires returns returns-2)
+fraction-end-spec = tie.close (tie.spec (λ c κs. search needs) add-run-end (λ c κs. search needs) returns returns-2)

@@ -16,23 +16,8 @@ Inv-loop text at i₀ left₀ i left = moreEnd left text i ≡ moreEnd (length t
 abbrev μ-loop : tie.MeasureT-loop
 μ-loop text at i₀ left₀ i left = left
 
-loop-holds : tie.Need-loop-holds Inv-loop μ-loop
-loop-holds c = search needs
-
-byte-at-requires : tie.Need-byte-at-requires Inv-loop μ-loop
-byte-at-requires c κs = search needs
-
 add-parameter-end : tie.Need-add-parameter-end Inv-loop μ-loop
 add-parameter-end c = omega (arith, byte-inside (now (c .before .before .before .before .before .args .text)) (c .before .before .before .loop .i) (c .before .byte-at .ensures) (c .if1 .taken) (omega arith))
-
-parameter-end-requires : tie.Need-parameter-end-requires Inv-loop μ-loop
-parameter-end-requires c κs = search needs
-
-sub-left : tie.Need-sub-left Inv-loop μ-loop
-sub-left c = search needs
-
-loop-less : tie.Need-loop-less Inv-loop μ-loop
-loop-less c = search needs
 
 loop-again : tie.Need-loop-again Inv-loop μ-loop
 loop-again c = rw (← c .before .before .before .before .loop .inv, more-step _ _ _ (c .before .before .before .loop-test .taken)) (simp (← c .before .before .byte-at .ensures, eq-eqb _ _ (c .before .if1 .taken), ← c .parameter-end .ensures))
@@ -45,16 +30,5 @@ returns-2 c = sym (more-past _ _ _ (c .loop-test .left)) ∙ c .before .loop .in
 
 pub more-end-spec : {M : Type 1} → statement M
 more-end-spec =
-    tie.close
-    (tie.spec
-    Inv-loop
-    μ-loop
-    loop-holds
-    byte-at-requires
-    add-parameter-end
-    parameter-end-requires
-    sub-left
-    loop-less
-    loop-again
-    returns
-    returns-2)
+    tie.close (tie.spec Inv-loop μ-loop (λ c. search needs) (λ c κs. search needs) add-parameter-end (λ c κs. search needs) (λ c. search needs)
+    (λ c. search needs) loop-again returns returns-2)

@@ -7,14 +7,8 @@ use borrow.Author.Needs.{needs}
 use Rattle.scan.proofs.quantized.scientific_end.Statement.{statement}
 use Rattle.scan.proofs.quantized.scientific_end.Tie as tie
 
-byte-at-requires : tie.Need-byte-at-requires
-byte-at-requires c κs = search needs
-
 add-integer-end : tie.Need-add-integer-end
 add-integer-end c = omega (arith, byte-inside (now (c .before .before .before .args .text)) (c .before .before .before .args .at) (c .before .byte-at .ensures) (c .if1 .taken) (omega arith))
-
-integer-end-requires : tie.Need-integer-end-requires
-integer-end-requires c κs = search needs
 
 returns : tie.Need-returns
 unfolding scientificEnd
@@ -22,9 +16,6 @@ returns c = simp (← c .before .before .byte-at .ensures, eq-eqb _ _ (c .before
 
 add-integer-end-2 : tie.Need-add-integer-end-2
 add-integer-end-2 c = omega (arith, byte-inside (now (c .before .before .before .before .args .text)) (c .before .before .before .before .args .at) (c .before .before .byte-at .ensures) (c .if2 .taken) (omega arith))
-
-integer-end-requires-2 : tie.Need-integer-end-requires-2
-integer-end-requires-2 c κs = search needs
 
 returns-2 : tie.Need-returns-2
 unfolding scientificEnd
@@ -36,13 +27,5 @@ returns-3 c = simp (← c .before .before .byte-at .ensures, ne-eqb _ _ (c .befo
 
 pub scientific-end-spec : {M : Type 1} → statement M
 scientific-end-spec =
-    tie.close
-    (tie.spec
-    byte-at-requires
-    add-integer-end
-    integer-end-requires
-    returns
-    add-integer-end-2
-    integer-end-requires-2
-    returns-2
+    tie.close (tie.spec (λ c κs. search needs) add-integer-end (λ c κs. search needs) returns add-integer-end-2 (λ c κs. search needs) returns-2
     returns-3)

@@ -8,12 +8,6 @@ use borrow.Author.Needs.{needs}
 use Rattle.scan.proofs.quantized.sign_end.Statement.{statement}
 use Rattle.scan.proofs.quantized.sign_end.Tie as tie
 
-byte-at-requires : tie.Need-byte-at-requires
-byte-at-requires c κs = search needs
-
-is-sign-requires : tie.Need-is-sign-requires
-is-sign-requires c κs = search needs
-
 add-result : tie.Need-add-result
 unfolding isSign
 add-result c = omega (arith, test-inside isSign (now (c .before .before .before .before .args .text)) (c .before .before .before .before .args .at) refl (rw (← c .before .before .byte-at .ensures, ← c .before .is-sign .ensures) (c .if1 .taken)))
@@ -27,4 +21,4 @@ unfolding signEnd
 returns-2 c = simp (← c .before .before .byte-at .ensures, ← c .before .is-sign .ensures, c .if1 .left)
 
 pub sign-end-spec : {M : Type 1} → statement M
-sign-end-spec = tie.close (tie.spec byte-at-requires is-sign-requires add-result returns returns-2)
+sign-end-spec = tie.close (tie.spec (λ c κs. search needs) (λ c κs. search needs) add-result returns returns-2)

@@ -7,23 +7,8 @@ use borrow.Author.Needs.{needs}
 use Rattle.scan.proofs.quantized.storage_end.Statement.{statement}
 use Rattle.scan.proofs.quantized.storage_end.Tie as tie
 
-byte-at-requires : tie.Need-byte-at-requires
-byte-at-requires c κs = search needs
-
 add-integer-end : tie.Need-add-integer-end
 add-integer-end c = omega (arith, byte-inside (now (c .before .before .before .args .text)) (c .before .before .before .args .at) (c .before .byte-at .ensures) (c .if1 .taken) (omega arith))
-
-integer-end-requires : tie.Need-integer-end-requires
-integer-end-requires c κs = search needs
-
-byte-end-requires : tie.Need-byte-end-requires
-byte-end-requires c κs = search needs
-
-integer-end-requires-2 : tie.Need-integer-end-requires-2
-integer-end-requires-2 c κs = search needs
-
-byte-end-requires-2 : tie.Need-byte-end-requires-2
-byte-end-requires-2 c κs = search needs
 
 returns : tie.Need-returns
 unfolding storageEnd
@@ -35,13 +20,5 @@ returns-2 c = simp (← c .before .byte-at .ensures, ne-eqb _ _ (c .if1 .left))
 
 pub storage-end-spec : {M : Type 1} → statement M
 storage-end-spec =
-    tie.close
-    (tie.spec
-    byte-at-requires
-    add-integer-end
-    integer-end-requires
-    byte-end-requires
-    integer-end-requires-2
-    byte-end-requires-2
-    returns
-    returns-2)
+    tie.close (tie.spec (λ c κs. search needs) add-integer-end (λ c κs. search needs) (λ c κs. search needs) (λ c κs. search needs)
+    (λ c κs. search needs) returns returns-2)

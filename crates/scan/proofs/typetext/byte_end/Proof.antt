@@ -8,12 +8,6 @@ returns : tie.Need-returns
 unfolding byteEnd
 returns c = simp (le-leb _ _ (c .if1 .taken))
 
-shared-slice-read-if2 : tie.Need-shared-slice-read-if2
-shared-slice-read-if2 c = search needs
-
-add-result : tie.Need-add-result
-add-result c = search needs
-
 returns-2 : tie.Need-returns-2
 unfolding byteEnd
 returns-2 c = simp (lt-leb _ _ (c .before .before .if1 .left), eq-eqb _ _ (c .if2 .taken))
@@ -23,4 +17,4 @@ unfolding byteEnd
 returns-3 c = simp (lt-leb _ _ (c .before .before .if1 .left), ne-eqb _ _ (c .if2 .left))
 
 pub byte-end-spec : {M : Type 1} → statement M
-byte-end-spec = tie.close (tie.spec returns shared-slice-read-if2 add-result returns-2 returns-3)
+byte-end-spec = tie.close (tie.spec returns (λ c. search needs) (λ c. search needs) returns-2 returns-3)

@@ -3,15 +3,9 @@ use borrow.Author.Needs.{needs}
 use Rattle.scan.proofs.typetext.complex_end.Statement.{statement}
 use Rattle.scan.proofs.typetext.complex_end.Tie as tie
 
-word-end-requires : tie.Need-word-end-requires
-word-end-requires c κs = search needs
-
-byte-end-requires : tie.Need-byte-end-requires
-byte-end-requires c κs = search needs
-
 returns : tie.Need-returns
 unfolding complexEnd
 returns c = simp (← c .before .word-end .ensures, ← c .byte-end .ensures)
 
 pub complex-end-spec : {M : Type 1} → statement M
-complex-end-spec = tie.close (tie.spec word-end-requires byte-end-requires returns)
+complex-end-spec = tie.close (tie.spec (λ c κs. search needs) (λ c κs. search needs) returns)

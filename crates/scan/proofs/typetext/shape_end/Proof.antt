@@ -14,30 +14,12 @@ Inv-loop text at end₀ size₀ i₀ end size i = shapeFrom end size i (drop i t
 abbrev μ-loop : tie.MeasureT-loop
 μ-loop text at end₀ size₀ i₀ end size i = length text - i
 
-loop-holds : tie.Need-loop-holds Inv-loop μ-loop
-loop-holds c = search needs
-
-shared-slice-read-size-next : tie.Need-shared-slice-read-size-next Inv-loop μ-loop
-shared-slice-read-size-next c = search needs
-
-size-next-requires : tie.Need-size-next-requires Inv-loop μ-loop
-size-next-requires c κs = search needs
-
 returns : tie.Need-returns Inv-loop μ-loop
 unfolding shapeEnd
 returns c = rw (← c .before .before .before .before .loop .inv, shape-step _ _ _ _ (c .before .before .before .loop-test .taken)) (simp (← c .before .size-next .ensures, eq-eqb _ _ (c .if1 .taken)))
 
-add-i : tie.Need-add-i Inv-loop μ-loop
-add-i c = search needs
-
-loop-less : tie.Need-loop-less Inv-loop μ-loop
-loop-less c = search needs
-
 loop-again : tie.Need-loop-again Inv-loop μ-loop
 loop-again c = rw (← c .before .before .before .before .before .loop .inv, shape-step _ _ _ _ (c .before .before .before .before .loop-test .taken)) (simp (← c .before .before .size-next .ensures, ne-eqb _ _ (c .before .if1 .left), eq-eqb _ _ (c .if2 .taken)))
-
-loop-less-2 : tie.Need-loop-less-2 Inv-loop μ-loop
-loop-less-2 c = search needs
 
 loop-again-2 : tie.Need-loop-again-2 Inv-loop μ-loop
 loop-again-2 c = rw (← c .before .before .before .before .before .loop .inv, shape-step _ _ _ _ (c .before .before .before .before .loop-test .taken)) (simp (← c .before .before .size-next .ensures, ne-eqb _ _ (c .before .if1 .left), ne-eqb _ _ (c .if2 .left)))
@@ -48,17 +30,5 @@ returns-2 c = sym (shape-past _ _ _ _ (c .loop-test .left)) ∙ c .before .loop 
 
 pub shape-end-spec : {M : Type 1} → statement M
 shape-end-spec =
-    tie.close
-    (tie.spec
-    Inv-loop
-    μ-loop
-    loop-holds
-    shared-slice-read-size-next
-    size-next-requires
-    returns
-    add-i
-    loop-less
-    loop-again
-    loop-less-2
-    loop-again-2
-    returns-2)
+    tie.close (tie.spec Inv-loop μ-loop (λ c. search needs) (λ c. search needs) (λ c κs. search needs) returns (λ c. search needs) (λ c. search needs)
+    loop-again (λ c. search needs) loop-again-2 returns-2)

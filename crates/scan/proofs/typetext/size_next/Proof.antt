@@ -4,9 +4,6 @@ use borrow.Author.Needs.{needs}
 use Rattle.scan.proofs.typetext.size_next.Statement.{statement}
 use Rattle.scan.proofs.typetext.size_next.Tie as tie
 
-is-digit-requires : tie.Need-is-digit-requires
-is-digit-requires c κs = search needs
-
 returns : tie.Need-returns
 unfolding sizeNext
 returns c = simp (← c .before .before .is-digit .ensures, c .before .if1 .taken, lt-ltb _ _ (c .if2 .taken))
@@ -32,6 +29,4 @@ unfolding sizeNext
 returns-6 c = simp (← c .before .before .before .is-digit .ensures, c .before .before .if1 .left, ne-eqb _ _ (c .before .if3 .left), ne-eqb _ _ (c .if5 .left))
 
 pub size-next-spec : {M : Type 1} → statement M
-size-next-spec =
-    tie.close
-    (tie.spec is-digit-requires returns returns-2 returns-3 returns-4 returns-5 returns-6)
+size-next-spec = tie.close (tie.spec (λ c κs. search needs) returns returns-2 returns-3 returns-4 returns-5 returns-6)

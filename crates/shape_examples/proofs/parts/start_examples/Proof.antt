@@ -15,4 +15,6 @@ unfolding allBelow
 dynamic-slice-requires-2 c κs = ((refl, refl, refl), (refl, refl, refl), (refl, refl))
 
 pub start-examples-spec : {M : Type 1} → statement M
-start-examples-spec = tie.close (tie.spec (λ c. search needs) (λ c. search needs) (λ c. search needs) dynamic-slice-requires (λ c. search needs) (λ c. search needs) (λ c. search needs) dynamic-slice-requires-2 (λ c. search needs))
+start-examples-spec =
+    tie.close (tie.spec (λ c. search needs) (λ c. search needs) (λ c. search needs) dynamic-slice-requires (λ c. search needs) (λ c. search needs)
+    (λ c. search needs) dynamic-slice-requires-2 (λ c. search needs))

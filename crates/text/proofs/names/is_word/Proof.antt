@@ -8,9 +8,6 @@ returns : tie.Need-returns
 unfolding wordIs
 returns c = simp (lt-leb _ _ (c .if1 .taken))
 
-starts-requires : tie.Need-starts-requires
-starts-requires c κs = search needs
-
 returns-2 : tie.Need-returns-2
 unfolding wordIs
 returns-2 c = simp (le-leb _ _ (c .before .before .if1 .left), eq-eqb _ _ (c .before .if2 .taken), ← c .starts .ensures)
@@ -20,4 +17,4 @@ unfolding wordIs
 returns-3 c = simp (le-leb _ _ (c .before .if1 .left), ne-eqb _ _ (c .if2 .left))
 
 pub is-word-spec : {M : Type 1} → statement M
-is-word-spec = tie.close (tie.spec returns starts-requires returns-2 returns-3)
+is-word-spec = tie.close (tie.spec returns (λ c κs. search needs) returns-2 returns-3)

@@ -4,9 +4,6 @@ use borrow.Author.Needs.{needs}
 use Rattle.text.proofs.names.same_name.Statement.{statement}
 use Rattle.text.proofs.names.same_name.Tie as tie
 
-same-bytes-requires : tie.Need-same-bytes-requires
-same-bytes-requires c κs = search needs
-
 returns : tie.Need-returns
 unfolding sameName nameBytes
 returns c = simp (eq-eqb _ _ (c .before .if1 .taken), ← c .before .if1 .taken, ← c .same-bytes .ensures)
@@ -16,4 +13,4 @@ unfolding sameName
 returns-2 c = simp (ne-eqb _ _ (c .if1 .left))
 
 pub same-name-spec : {M : Type 1} → statement M
-same-name-spec = tie.close (tie.spec same-bytes-requires returns returns-2)
+same-name-spec = tie.close (tie.spec (λ c κs. search needs) returns returns-2)

@@ -4,9 +4,6 @@ use borrow.Author.Needs.{needs}
 use Rattle.types.proofs.numbers.at_least_zero.Statement.{statement}
 use Rattle.types.proofs.numbers.at_least_zero.Tie as tie
 
-highest-requires : tie.Need-highest-requires
-highest-requires c κs = search needs
-
 returns : tie.Need-returns
 returns c = sym (fits-pos _ _ (rw (← c .before .highest .ensures) (c .if1 .taken)))
 
@@ -14,4 +11,4 @@ returns-2 : tie.Need-returns-2
 returns-2 c = sym (above _ _ (rw (← c .before .highest .ensures) (c .if1 .left)))
 
 pub at-least-zero-spec : {M : Type 1} → statement M
-at-least-zero-spec = tie.close (tie.spec highest-requires returns returns-2)
+at-least-zero-spec = tie.close (tie.spec (λ c κs. search needs) returns returns-2)

@@ -4,15 +4,6 @@ use borrow.Author.Needs.{needs}
 use Rattle.types.proofs.numbers.below_zero.Statement.{statement}
 use Rattle.types.proofs.numbers.below_zero.Tie as tie
 
-is-signed-requires : tie.Need-is-signed-requires
-is-signed-requires c κs = search needs
-
-highest-requires : tie.Need-highest-requires
-highest-requires c κs = search needs
-
-sub-t6 : tie.Need-sub-t6
-sub-t6 c = search needs
-
 returns : tie.Need-returns
 returns c = sym (fits-negsuc _ _ (sym (c .before .before .before .is-signed .ensures) ∙ c .before .before .if1 .taken) (rw (← c .before .highest .ensures) (c .if2 .taken)))
 
@@ -23,5 +14,4 @@ returns-3 : tie.Need-returns-3
 returns-3 c = sym (unsigned-negsuc _ _ (sym (c .before .is-signed .ensures) ∙ c .if1 .left))
 
 pub below-zero-spec : {M : Type 1} → statement M
-below-zero-spec =
-    tie.close (tie.spec is-signed-requires highest-requires sub-t6 returns returns-2 returns-3)
+below-zero-spec = tie.close (tie.spec (λ c κs. search needs) (λ c κs. search needs) (λ c. search needs) returns returns-2 returns-3)

@@ -17,18 +17,6 @@ Inv-loop text at v₀ i₀ v i = (v < 2 ^ 64) × (digitsFrom v (drop i text) ≡
 abbrev μ-loop : tie.MeasureT-loop
 μ-loop text at v₀ i₀ v i = length text - i
 
-loop-holds : tie.Need-loop-holds Inv-loop μ-loop
-loop-holds c = search needs
-
-shared-slice-read-b : tie.Need-shared-slice-read-b Inv-loop μ-loop
-shared-slice-read-b c = search needs
-
-is-digit-requires : tie.Need-is-digit-requires Inv-loop μ-loop
-is-digit-requires c κs = search needs
-
-digit-of-requires : tie.Need-digit-of-requires Inv-loop μ-loop
-digit-of-requires c κs = search needs
-
 passes-requires : tie.Need-passes-requires Inv-loop μ-loop
 passes-requires c κs = rw (c .digit-of .ensures) (digit-le _ (sym (c .before .before .is-digit .ensures) ∙ c .before .if1 .taken))
 
@@ -41,12 +29,6 @@ mul-v c = omega (arith, leb-false (2 ^ 64) (c .before .before .before .before .b
 add-v : tie.Need-add-v Inv-loop μ-loop
 add-v c = omega (arith, leb-false (2 ^ 64) (c .before .before .before .before .before .before .before .loop .v * 10 + c .before .before .digit-of .result) (sym (c .before .passes .ensures) ∙ c .if2 .left))
 
-add-i : tie.Need-add-i Inv-loop μ-loop
-add-i c = search needs
-
-loop-less : tie.Need-loop-less Inv-loop μ-loop
-loop-less c = search needs
-
 loop-again : tie.Need-loop-again Inv-loop μ-loop
 loop-again c = (omega (arith, leb-false (2 ^ 64) (c .before .before .before .before .before .before .before .loop .v * 10 + c .before .before .digit-of .result) (sym (c .before .passes .ensures) ∙ c .if2 .left)), rw (← c .before .before .before .before .before .before .before .loop .inv .1, digits-step _ _ _ (c .before .before .before .before .before .before .loop-test .taken)) (simp (← c .before .before .before .before .is-digit .ensures, c .before .before .before .if1 .taken, ← c .before .before .digit-of .ensures)))
 
@@ -58,20 +40,5 @@ returns-3 c = rw (← c .before .loop .inv .1, digits-past _ _ _ (c .loop-test .
 
 pub digits-spec : {M : Type 1} → statement M
 digits-spec =
-    tie.close
-    (tie.spec
-    Inv-loop
-    μ-loop
-    loop-holds
-    shared-slice-read-b
-    is-digit-requires
-    digit-of-requires
-    passes-requires
-    returns
-    mul-v
-    add-v
-    add-i
-    loop-less
-    loop-again
-    returns-2
-    returns-3)
+    tie.close (tie.spec Inv-loop μ-loop (λ c. search needs) (λ c. search needs) (λ c κs. search needs) (λ c κs. search needs) passes-requires returns
+    mul-v add-v (λ c. search needs) (λ c. search needs) loop-again returns-2 returns-3)

@@ -6,34 +6,17 @@ use borrow.Author.Needs.{needs}
 use Rattle.types.proofs.numbers.number_in.Statement.{statement}
 use Rattle.types.proofs.numbers.number_in.Tie as tie
 
-decimal-at-requires : tie.Need-decimal-at-requires
-decimal-at-requires c κs = search needs
-
 returns : tie.Need-returns
 unfolding decimalOf numberOf
 returns c = let text = now (c .before .before .before .args .text) in let at = c .before .before .before .args .start in let n = negativeAt text at in let m = magnitudeOf text at in sym (big-number _ n m (of-big n m (c .before .decimal-at .ensures) (c .if1 .taken)))
 
-negated-requires : tie.Need-negated-requires
-negated-requires c κs = search needs
-
 returns-2 : tie.Need-returns-2
 unfolding decimalOf numberOf
 returns-2 c = let text = now (c .before .before .before .before .before .args .text) in let at = c .before .before .before .before .before .args .start in let n = negativeAt text at in let m = magnitudeOf text at in c .negated .ensures ∙ rw (of-small n m (c .before .before .before .decimal-at .ensures) (c .before .before .if1 .left), ← of-negative n m (c .before .before .before .decimal-at .ensures), c .before .if2 .taken)
-
-at-least-zero-requires : tie.Need-at-least-zero-requires
-at-least-zero-requires c κs = search needs
 
 returns-3 : tie.Need-returns-3
 unfolding decimalOf numberOf
 returns-3 c = let text = now (c .before .before .before .before .before .args .text) in let at = c .before .before .before .before .before .args .start in let n = negativeAt text at in let m = magnitudeOf text at in c .at-least-zero .ensures ∙ rw (of-small n m (c .before .before .before .decimal-at .ensures) (c .before .before .if1 .left), ← of-negative n m (c .before .before .before .decimal-at .ensures), c .before .if2 .left)
 
 pub number-in-spec : {M : Type 1} → statement M
-number-in-spec =
-    tie.close
-    (tie.spec
-    decimal-at-requires
-    returns
-    negated-requires
-    returns-2
-    at-least-zero-requires
-    returns-3)
+number-in-spec = tie.close (tie.spec (λ c κs. search needs) returns (λ c κs. search needs) returns-2 (λ c κs. search needs) returns-3)

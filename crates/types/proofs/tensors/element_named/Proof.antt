@@ -10,47 +10,26 @@ use borrow.Author.Needs.{needs}
 use Rattle.types.proofs.tensors.element_named.Statement.{statement}
 use Rattle.types.proofs.tensors.element_named.Tie as tie
 
-is-boolean-requires : tie.Need-is-boolean-requires
-is-boolean-requires c κs = search needs
-
 returns : tie.Need-returns
 unfolding elementNamed
 returns c = simp (← c .before .is-boolean .ensures, c .if1 .taken)
 
-opens-signless-requires : tie.Need-opens-signless-requires
-opens-signless-requires c κs = search needs
-
 add-width-named : tie.Need-add-width-named
 add-width-named c = let h : 1 ≤ length (now (c .before .before .before .before .before .args .text)) - c .before .before .before .before .before .args .start = starts-inside (ascii "i") (now (c .before .before .before .before .before .args .text)) (c .before .before .before .before .before .args .start) (sym (c .before .opens-signless .ensures) ∙ c .if2 .taken) in omega arith
-
-width-named-requires : tie.Need-width-named-requires
-width-named-requires c κs = search needs
 
 returns-2 : tie.Need-returns-2
 unfolding elementNamed
 returns-2 c = simp (← c .before .before .before .before .is-boolean .ensures, c .before .before .before .if1 .left, ← c .before .before .opens-signless .ensures, c .before .if2 .taken, ← c .width-named .ensures)
 
-opens-signed-requires : tie.Need-opens-signed-requires
-opens-signed-requires c κs = search needs
-
 add-width-named-2 : tie.Need-add-width-named-2
 add-width-named-2 c = let h : 2 ≤ length (now (c .before .before .before .before .before .before .before .args .text)) - c .before .before .before .before .before .before .before .args .start = starts-inside (ascii "si") (now (c .before .before .before .before .before .before .before .args .text)) (c .before .before .before .before .before .before .before .args .start) (sym (c .before .opens-signed .ensures) ∙ c .if3 .taken) in omega arith
-
-width-named-requires-2 : tie.Need-width-named-requires-2
-width-named-requires-2 c κs = search needs
 
 returns-3 : tie.Need-returns-3
 unfolding elementNamed
 returns-3 c = simp (← c .before .before .before .before .before .before .is-boolean .ensures, c .before .before .before .before .before .if1 .left, ← c .before .before .before .before .opens-signless .ensures, c .before .before .before .if2 .left, ← c .before .before .opens-signed .ensures, c .before .if3 .taken, ← c .width-named2 .ensures)
 
-opens-unsigned-requires : tie.Need-opens-unsigned-requires
-opens-unsigned-requires c κs = search needs
-
 add-width-named-3 : tie.Need-add-width-named-3
 add-width-named-3 c = let h : 2 ≤ length (now (c .before .before .before .before .before .before .before .before .before .args .text)) - c .before .before .before .before .before .before .before .before .before .args .start = starts-inside (ascii "ui") (now (c .before .before .before .before .before .before .before .before .before .args .text)) (c .before .before .before .before .before .before .before .before .before .args .start) (sym (c .before .opens-unsigned .ensures) ∙ c .if4 .taken) in omega arith
-
-width-named-requires-3 : tie.Need-width-named-requires-3
-width-named-requires-3 c κs = search needs
 
 returns-4 : tie.Need-returns-4
 unfolding elementNamed
@@ -62,20 +41,5 @@ returns-5 c = simp (← c .before .before .before .before .before .before .befor
 
 pub element-named-spec : {M : Type 1} → statement M
 element-named-spec =
-    tie.close
-    (tie.spec
-    is-boolean-requires
-    returns
-    opens-signless-requires
-    add-width-named
-    width-named-requires
-    returns-2
-    opens-signed-requires
-    add-width-named-2
-    width-named-requires-2
-    returns-3
-    opens-unsigned-requires
-    add-width-named-3
-    width-named-requires-3
-    returns-4
-    returns-5)
+    tie.close (tie.spec (λ c κs. search needs) returns (λ c κs. search needs) add-width-named (λ c κs. search needs) returns-2 (λ c κs. search needs)
+    add-width-named-2 (λ c κs. search needs) returns-3 (λ c κs. search needs) add-width-named-3 (λ c κs. search needs) returns-4 returns-5)

@@ -9,9 +9,6 @@ use Rattle.types.proofs.tensors.size_passed.Tie as tie
 returns : tie.Need-returns
 returns c = simp (lt-ltb _ _ (c .if1 .taken))
 
-volume-of-requires : tie.Need-volume-of-requires
-volume-of-requires c κs = search needs
-
 returns-2 : tie.Need-returns-2
 returns-2 c = rw (le-ltb 6 (c .before .before .before .before .args .s .rank) (c .before .before .if1 .left), lt-ltb 4096 (volume (dimsOf (c .before .before .before .before .args .s))) (omega (arith, c .before .volume-of .ensures)))
 
@@ -19,4 +16,4 @@ returns-3 : tie.Need-returns-3
 returns-3 c = rw (le-ltb 6 (c .before .before .before .before .args .s .rank) (c .before .before .if1 .left), le-ltb 4096 (volume (dimsOf (c .before .before .before .before .args .s))) (omega (arith, c .before .volume-of .ensures)))
 
 pub size-passed-spec : {M : Type 1} → statement M
-size-passed-spec = tie.close (tie.spec returns volume-of-requires returns-2 returns-3)
+size-passed-spec = tie.close (tie.spec returns (λ c κs. search needs) returns-2 returns-3)

@@ -6,15 +6,6 @@ use borrow.Author.Needs.{needs}
 use Rattle.types.proofs.tensors.type_after.Statement.{statement}
 use Rattle.types.proofs.tensors.type_after.Tie as tie
 
-shape-end-requires : tie.Need-shape-end-requires
-shape-end-requires c κs = search needs
-
-type-close-requires : tie.Need-type-close-requires
-type-close-requires c κs = search needs
-
-element-named-requires : tie.Need-element-named-requires
-element-named-requires c κs = search needs
-
 count-byte-requires : tie.Need-count-byte-requires
 count-byte-requires c κs = rw (c .before .before .before .shape-end .ensures) (shape-le (now (c .before .before .before .before .before .args .text)) (c .before .before .before .before .before .args .at) (c .before .before .before .before .before .pre))
 
@@ -25,15 +16,9 @@ returns : tie.Need-returns
 unfolding typeAfter
 returns c = simp (← c .before .before .before .before .before .before .shape-end .ensures, ← c .before .before .before .before .before .type-close .ensures, ← c .before .before .before .before .element-named .ensures, c .before .before .before .if1 .taken, ← c .before .before .count-byte .ensures, eq-eqb _ _ (c .before .if2 .taken), ← c .typed-by .ensures)
 
-foreign-type-requires : tie.Need-foreign-type-requires
-foreign-type-requires c κs = search needs
-
 returns-2 : tie.Need-returns-2
 unfolding typeAfter
 returns-2 c = simp (← c .before .before .before .before .before .before .shape-end .ensures, ← c .before .before .before .before .before .type-close .ensures, ← c .before .before .before .before .element-named .ensures, c .before .before .before .if1 .taken, ← c .before .before .count-byte .ensures, ne-eqb _ _ (c .before .if2 .left), ← c .foreign-type .ensures)
-
-foreign-type-requires-2 : tie.Need-foreign-type-requires-2
-foreign-type-requires-2 c κs = search needs
 
 returns-3 : tie.Need-returns-3
 unfolding typeAfter
@@ -41,15 +26,5 @@ returns-3 c = simp (← c .before .before .before .before .shape-end .ensures, �
 
 pub type-after-spec : {M : Type 1} → statement M
 type-after-spec =
-    tie.close
-    (tie.spec
-    shape-end-requires
-    type-close-requires
-    element-named-requires
-    count-byte-requires
-    typed-by-requires
-    returns
-    foreign-type-requires
-    returns-2
-    foreign-type-requires-2
-    returns-3)
+    tie.close (tie.spec (λ c κs. search needs) (λ c κs. search needs) (λ c κs. search needs) count-byte-requires typed-by-requires returns
+    (λ c κs. search needs) returns-2 (λ c κs. search needs) returns-3)

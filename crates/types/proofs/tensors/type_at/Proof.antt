@@ -10,9 +10,6 @@ use borrow.Author.Needs.{needs}
 use Rattle.types.proofs.tensors.type_at.Statement.{statement}
 use Rattle.types.proofs.tensors.type_at.Tie as tie
 
-opens-tensor-requires : tie.Need-opens-tensor-requires
-opens-tensor-requires c κs = search needs
-
 add-type-after : tie.Need-add-type-after
 add-type-after c = let h : 7 ≤ length (now (c .before .before .before .args .text)) - c .before .before .before .args .start = starts-inside (ascii "tensor<") (now (c .before .before .before .args .text)) (c .before .before .before .args .start) (sym (c .before .opens-tensor .ensures) ∙ c .if1 .taken) in omega arith
 
@@ -23,20 +20,9 @@ returns : tie.Need-returns
 unfolding typeOf
 returns c = simp (← c .before .before .opens-tensor .ensures, c .before .if1 .taken, ← c .type-after .ensures)
 
-foreign-type-requires : tie.Need-foreign-type-requires
-foreign-type-requires c κs = search needs
-
 returns-2 : tie.Need-returns-2
 unfolding typeOf
 returns-2 c = simp (← c .before .before .opens-tensor .ensures, c .before .if1 .left, ← c .foreign-type .ensures)
 
 pub type-at-spec : {M : Type 1} → statement M
-type-at-spec =
-    tie.close
-    (tie.spec
-    opens-tensor-requires
-    add-type-after
-    type-after-requires
-    returns
-    foreign-type-requires
-    returns-2)
+type-at-spec = tie.close (tie.spec (λ c κs. search needs) add-type-after type-after-requires returns (λ c κs. search needs) returns-2)

@@ -3,29 +3,17 @@ use borrow.Author.Needs.{needs}
 use Rattle.types.proofs.tensors.width_named.Statement.{statement}
 use Rattle.types.proofs.tensors.width_named.Tie as tie
 
-is-8-requires : tie.Need-is-8-requires
-is-8-requires c κs = search needs
-
 returns : tie.Need-returns
 unfolding widthNamed
 returns c = simp (← c .before .is-8 .ensures, c .if1 .taken)
-
-is-16-requires : tie.Need-is-16-requires
-is-16-requires c κs = search needs
 
 returns-2 : tie.Need-returns-2
 unfolding widthNamed
 returns-2 c = simp (← c .before .before .before .is-8 .ensures, c .before .before .if1 .left, ← c .before .is-16 .ensures, c .if2 .taken)
 
-is-32-requires : tie.Need-is-32-requires
-is-32-requires c κs = search needs
-
 returns-3 : tie.Need-returns-3
 unfolding widthNamed
 returns-3 c = simp (← c .before .before .before .before .before .is-8 .ensures, c .before .before .before .before .if1 .left, ← c .before .before .before .is-16 .ensures, c .before .before .if2 .left, ← c .before .is-32 .ensures, c .if3 .taken)
-
-is-64-requires : tie.Need-is-64-requires
-is-64-requires c κs = search needs
 
 returns-4 : tie.Need-returns-4
 unfolding widthNamed
@@ -37,14 +25,5 @@ returns-5 c = simp (← c .before .before .before .before .before .before .befor
 
 pub width-named-spec : {M : Type 1} → statement M
 width-named-spec =
-    tie.close
-    (tie.spec
-    is-8-requires
-    returns
-    is-16-requires
-    returns-2
-    is-32-requires
-    returns-3
-    is-64-requires
-    returns-4
-    returns-5)
+    tie.close (tie.spec (λ c κs. search needs) returns (λ c κs. search needs) returns-2 (λ c κs. search needs) returns-3 (λ c κs. search needs)
+    returns-4 returns-5)
