@@ -4,15 +4,15 @@ use mathlib.Core.Path.{_≡_, refl, sym, ap, _∙_, subst}
 use mathlib.Core.List.{List, [], _∷_, _++_, append-nil}
 use mathlib.Core.Bool.{Bool, true, false, not}
 use Prim.Native.Nat.{ℕ, zero, suc, _+_, _*_, _≤_, _<_, max}
-use native.Mathlib.Nat.{not-suc-le-zero, mul-le-mul, mul-assoc, one-mul}
+use native.Mathlib.Nat.{not-suc-le-zero, le-of-suc-le-suc, mul-le-mul, mul-assoc, one-mul}
 use native.Mathlib.Numerals.{add-one}
 use native.Mathlib.Decide.{decLt}
 use native.Mathlib.Omega.{arith}
-use lib.ListN.{length, set, take, length-append, List·getD-append}
-use lib.Seq.{take-suc-set, take-set-le, getD-take, getD-at, length-take-le}
+use lib.ListN.{length, set, take, drop, replicate, length-append, List·getD-append}
+use lib.Seq.{getD-take, getD-at, length-take-le}
 use Rattle.lists.specs.Lists.{pick, tab}
 use Rattle.lists.proofs.TabLaw.{tab-getD}
-use Rattle.shape.specs.Index.{at, volume}
+use Rattle.shape.specs.Index.{at, volume, inSix}
 use Rattle.shape.proofs.IndexLaw.{volume-pos}
 use Rattle.reduction.specs.Rows.{countBelow, collect}
 
@@ -44,11 +44,28 @@ collect-cong (suc n) t f g h =
     ap (λ (l : List ℕ). l ++ pick (t n) (f n ∷ []) []) (collect-cong n t f g (λ d b. h d (omega arith)))
     ∙ ap (λ (x : ℕ). collect n t g ++ pick (t n) (x ∷ []) []) (h n (omega arith))
 
--- a turn of the loop that stores what it collects: at n, counted on where it passes
-pub collect-store : (l : List ℕ) (n v : ℕ) (b : Bool) → n < length l → take (n + pick b 1 0) (set l n v) ≡ take n l ++ pick b (v ∷ []) []
-collect-store l n v true h = ap (λ (k : ℕ). take k (set l n v)) (add-one n) ∙ take-suc-set l n v h
-collect-store l n v false h =
-    ap (λ (k : ℕ). take k (set l n v)) (let e : n + 0 ≡ n = omega arith in e) ∙ take-set-le n l n v (omega arith) ∙ sym (append-nil (take n l))
+-- a turn of the loop that stores what it collects, behind what it has
+store-behind : (u l : List ℕ) (v : ℕ) → length u < length l → set (u ++ drop (length u) l) (length u) v ≡ (u ++ v ∷ []) ++ drop (length (u ++ v ∷ [])) l
+store-behind [] [] v h = absurd (not-suc-le-zero h)
+store-behind [] (x ∷ l) v h = refl
+store-behind (a ∷ u) [] v h = absurd (not-suc-le-zero h)
+store-behind (a ∷ u) (x ∷ l) v h = ap (λ (r : List ℕ). a ∷ r) (store-behind u l v (le-of-suc-le-suc h))
+
+module _ (d : ℕ) (t : ℕ → Bool) (f : ℕ → ℕ) where
+  pub collect-taken : t d ≡ true → collect (d + 1) t f ≡ collect d t f ++ f d ∷ []
+  collect-taken e = collect-step d t f ∙ ap (λ (b : Bool). collect d t f ++ pick b (f d ∷ []) []) e
+
+  pub length-taken : t d ≡ true → length (collect (d + 1) t f) ≡ length (collect d t f) + 1
+  length-taken e = ap length (collect-taken e) ∙ length-append (collect d t f) (f d ∷ [])
+
+  pub collect-left : t d ≡ false → collect (d + 1) t f ≡ collect d t f
+  collect-left e = collect-step d t f ∙ ap (λ (b : Bool). collect d t f ++ pick b (f d ∷ []) []) e ∙ append-nil (collect d t f)
+
+  pub collect-few : length (collect d t f) ≤ d
+  collect-few = rw (length-collect d t f) (count-le t d)
+
+  pub collect-store : t d ≡ true → d < 6 → set (inSix (collect d t f)) (length (collect d t f)) (f d) ≡ inSix (collect (d + 1) t f)
+  collect-store e h = store-behind (collect d t f) (replicate 6 0) (f d) (omega (arith, collect-few)) ∙ ap inSix (sym (collect-taken e))
 
 -- over the array that holds the dimensions
 pub collect-dims : (rank : ℕ) (dims : List ℕ) (t : ℕ → Bool) → rank ≤ length dims → collect rank t (at dims) ≡ collect (length (take rank dims)) t (at (take rank dims))

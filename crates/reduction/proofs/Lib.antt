@@ -1,2 +1,3 @@
 pub mod CollectLaw
 pub mod RowLaw
+pub mod SliceLaw

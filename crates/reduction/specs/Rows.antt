@@ -72,8 +72,3 @@ pub record Stretches (from to : Shape) (count : ℕ) (x out : List ℕ) : Type 0
 -- C7
 pub record ReduceHolds (dimensions from to : List ℕ) : Type 0 where
   pub shape : to ≡ keptShape dimensions from
-
--- the shape of an input slice, as the code makes it
-pub record SliceShape (dimensions from : List ℕ) (s : Shape) : Type 0 where
-  pub rank : s .rank ≤ 6
-  pub dims : dimsOf s ≡ sliceShape dimensions from

@@ -6,8 +6,8 @@ ghost use Rattle.lists.specs.Lists.{pick, tab};
 ghost use Rattle.run.specs.Tree.{fold};
 ghost use Rattle.scalar.specs.Body.{bodyOf};
 ghost use Rattle.shape.specs.Index.{at, size, unravel, elementAt, inSix};
-ghost use Rattle.shape.specs.Dims.{dimsOf, Sized, Fills};
-ghost use Rattle.reduction.specs.Rows.{isIn, inserted, rowOver, rowAt, reduced, Stretches, SliceShape};
+ghost use Rattle.shape.specs.Dims.{dimsOf, shapeFrom, Sized, Fills};
+ghost use Rattle.reduction.specs.Rows.{isIn, inserted, rowOver, rowAt, sliceShape, reduced, Stretches};
 use element::ElementType;
 use scalar::Body;
 use shape::Shape;
@@ -35,15 +35,17 @@ fn is_in(dimensions: [usize; 6], count: usize, d: usize) -> bool
 // The dimensions that are reduced.
 fn slice_shape(from: Shape, dimensions: [usize; 6], count: usize) -> Shape
     requires { ⌜ (from .rank ≤ 6) × (count ≤ 6) ⌝ }
-    ensures { λ r. ⌜ SliceShape (take count dimensions) (dimsOf from) r ⌝ }
+    ensures { λ r. ⌜ r ≡ shapeFrom (sliceShape (take count dimensions) (dimsOf from)) ⌝ }
 {
     let rank = from.rank;
     let dims = from.dims;
     let mut taken = [0usize; 6];
     let mut n = 0;
     for d in 0..rank {
-        taken[n] = dims[d];
-        n = n + number(is_in(dimensions, count, d));
+        if is_in(dimensions, count, d) {
+            taken[n] = dims[d];
+            n += 1;
+        }
     }
     Shape {
         rank: n,

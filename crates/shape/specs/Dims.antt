@@ -5,10 +5,14 @@ use mathlib.Core.List.{List}
 use Prim.Native.Nat.{ℕ, _≤_}
 use lib.ListN.{length, take}
 use Rattle.shape.specs.declared.Shape.{Shape}
-use Rattle.shape.specs.Index.{size, volume}
+use Rattle.shape.specs.Index.{size, volume, inSix}
 
 abbrev pub dimsOf : Shape → List ℕ
 dimsOf s = take (s .rank) (s .dims)
+
+-- a shape as the code makes it: zeros behind its dimensions
+abbrev pub shapeFrom : List ℕ → Shape
+shapeFrom ds = record { rank = length ds; dims = inSix ds }
 
 -- 01, "Sizes": 1, the rank is at most 6; 2, the product of the dimensions with every 0 counted as 1, and so each dimension, is at most 4,096
 pub record Sized (s : Shape) : Type 0 where
