@@ -9,9 +9,11 @@ use lib.ListN.{getD}
 use Rattle.run.specs.Ways.{OrderFree}
 use Rattle.elementwise.specs.Elementwise.{Tensor}
 use Rattle.ops.specs.Ops.{hlo}
-use Rattle.ops.specs.Typed.{HoldAll, Accepted, StartsAtIdentity}
+use Rattle.ops.specs.declared.Kind.the-variants.{Constant}
+use Rattle.ops.specs.Typed.{HoldAll, Granted, Accepted, StartsAtIdentity}
 use Rattle.ops.proofs.ProgramLaw.{hlo-order-free}
 use Rattle.judge.specs.Judge.{textRefusal}
+use Rattle.optable.specs.Table.{value}
 use Rattle.dimrules.specs.Types.{typeAt}
 use Rattle.program.specs.declared.Parts.{Parts}
 use Rattle.program.specs.declared.Program.{Program as Places}
@@ -23,13 +25,14 @@ use Rattle.values.specs.Values.{noValue, opsOf, valuesIn}
 use Rattle.offsets.specs.Offsets.{neededOf}
 use Rattle.known.specs.Known.{namesFault}
 use Rattle.operands.specs.Operands.{valueNamed, arityOf}
+use Rattle.attributes.specs.Attributes.{stands, denseFits, nameOf}
 use Rattle.outputs.specs.Outputs.{typedReturn}
 use Rattle.typing.specs.Typing.{rowOf, operationOf}
 use Rattle.facts.specs.Facts.{AcceptedAs, nodeType}
 use Rattle.verify.specs.Verify.{programRefusal, verdict}
-use Rattle.nodes.specs.Nodes.{kindOf, nodesOf, typesOf}
-use Rattle.nodes.proofs.TypedLaw.{typed-accepted}
-use Rattle.nodes.proofs.NodesLaw.{OpStands, defined-type, return-defined, operand-before, operand-type, nodes-accepted}
+use Rattle.nodes.specs.Nodes.{kindOf, nodeAt, nodesOf, typesOf}
+use Rattle.nodes.proofs.TypedLaw.{typed-accepted, typed-constant}
+use Rattle.nodes.proofs.NodesLaw.{OpStands, defined-type, return-defined, operand-before, operand-type, result-is, granted-at, nodes-accepted}
 use Rattle.nodes.proofs.VerdictLaw.{both-zero, ops-and-return, few-elements, each-passed, op-stands, return-stands, ops-stand}
 
 module _ (text : List ℕ) where
@@ -85,6 +88,18 @@ module _ (text : List ℕ) where
     returns-defined j m =
         let d = return-defined text p (ops-stand text p vs program-passes) j m in
         (d .before, defined-type text p (opOf (opsOf p)) (vs .inputs + opsOf p) j d)
+
+    -- op k as evaluating takes it: its result is value inputs + k, and it has what its class asks
+    pub node-result : (k : ℕ) → k < opsOf p → nodeAt text p vs k .result ≡ nodeType (getD (vs .list) (vs .inputs + k) noValue .ty)
+    node-result = result-is text p
+
+    pub node-accepted : (k : ℕ) → k < opsOf p → Granted (nodeAt text p vs k) (nodeAt text p vs k .kind)
+    node-accepted = granted-at text p (ops-stand text p vs program-passes)
+
+    -- a constant has its dense value, which is one of its type
+    pub constant-accepted : (k : ℕ) → k < opsOf p → kindOf text (opOf k) ≡ Constant
+        → (stands text (opOf k) value ≡ true) × (denseFits text (nameOf text (opOf k) value) ≡ true)
+    constant-accepted k l = typed-constant text (opOf k) (vs .list) (vs .inputs + k) (accepted-stands k l .typed)
 
     pub accepted-program : Accepted (typesOf text) (nodesOf text)
     unfolding typesOf nodesOf

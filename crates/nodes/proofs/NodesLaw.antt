@@ -69,7 +69,7 @@ module _ (text : List ℕ) (p : Places) where
   abbrev valueType : ℕ → NodeType
   valueType i = nodeType (getD (vs .list) i noValue .ty)
 
-  result-is : (k : ℕ) → k < opsOf p → nodeAt text p vs k .result ≡ valueType (vs .inputs + k)
+  pub result-is : (k : ℕ) → k < opsOf p → nodeAt text p vs k .result ≡ valueType (vs .inputs + k)
   unfolding nodeAt operationOf valuesIn valueAt resultValue
   result-is k l =
       let i = inputsOf p + k in
@@ -136,7 +136,7 @@ module _ (text : List ℕ) (p : Places) where
         (λ j m. operand-type k l j m ∙ sym (value-type (named j) (let b = operand-before k l j m in omega arith)))
         ∙ sym (map-tab (typeAt (inputTypes vs) (nodesIn text p vs)) (arityOf op) named)
 
-    granted-at : (k : ℕ) → k < opsOf p → NodeGranted (nodeAt text p vs k) (nodeAt text p vs k .kind)
+    pub granted-at : (k : ℕ) → k < opsOf p → NodeGranted (nodeAt text p vs k) (nodeAt text p vs k .kind)
     unfolding nodeAt
     granted-at k l =
         let h = s .each k l in

@@ -152,6 +152,10 @@ module _ (text : List ℕ) (op : Parts) (i : ℕ) (l : i < 34) (fit : attributes
       rw (s .1) at (both-true (ltb k 15 && ltb (slotIn (rowAt i) k) 3 && eqb (standsAt text op k) j) (kindFits text (placeOf op attributeName j) (attributeKind k)) f .1) in
       rw e (both-true (eqb (formAt text (placeOf op attributeName j)) Dense) (denseFits text (placeOf op attributeName j)) g .1)
 
+  -- a constant has its dense value, which is one of its type
+  pub constant-reads : rowAt i .rule ≡ ConstantRule → (stands text op value ≡ true) × (denseFits text (nameOf text op value) ≡ true)
+  constant-reads e = let s = first-stands value (first-asked ConstantRule value constant-asks i l e) in (s, value-fits s)
+
   pub constant-elements : rowAt i .rule ≡ ConstantRule → Holds (denseType text op value .element) (size (dimsOf (denseType text op value .shape))) (elementsOf text op)
   unfolding denseType denseFits elementsOf
   constant-elements e =

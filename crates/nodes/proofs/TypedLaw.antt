@@ -13,7 +13,7 @@ use Rattle.shape.specs.Dims.{dimsOf}
 use Rattle.ops.specs.declared.Kind.{Kind}
 use Rattle.ops.specs.declared.Kind.the-variants.{Constant, Iota, Elementwise, Pairwise, Quotient, Compare, Convert, Select, Clamp, Moved, Pad, Concatenate, DynamicSlice, Reduce}
 use Rattle.ops.specs.Typed.{Granted as NodeGranted}
-use Rattle.optable.specs.Table.{comparisonDirection}
+use Rattle.optable.specs.Table.{comparisonDirection, value}
 use Rattle.optable.specs.declared.Row.{Row}
 use Rattle.dimrules.specs.Count.{everywhere}
 use Rattle.dimrules.proofs.CountLaw.{holds-at}
@@ -25,7 +25,7 @@ use Rattle.program.specs.declared.Parts.{Parts}
 use Rattle.places.specs.Places.{opName, operandName, operandType, bodyOpen, countOf, placeOf, typeOfPart}
 use Rattle.values.specs.declared.Value.{Value}
 use Rattle.values.specs.Values.{noValue}
-use Rattle.attributes.specs.Attributes.{attributesFit, choiceOf}
+use Rattle.attributes.specs.Attributes.{attributesFit, choiceOf, stands, denseFits, nameOf}
 use Rattle.bodies.specs.Bodies.{rowNamed, bodyRow}
 use Rattle.operands.specs.Operands.{valueNamed, arityOf, operandTyped, operandsTyped}
 use Rattle.typing.specs.Typing.{rowOf, typesOf, operationOf, resultsAre, bodiesFit, inTable, typedOp}
@@ -36,7 +36,7 @@ use Rattle.facts.proofs.AcceptedLaw.{row-for, accepted}
 use Rattle.facts.proofs.BridgeLaw.{alike-dims}
 use Rattle.facts.proofs.NodeLaw.{node-granted}
 use Rattle.nodes.specs.Nodes.{directionAt, reducerAt, kindOf, elementsOf}
-use Rattle.nodes.proofs.ReadLaw.{operation-shaped, iota-number, concatenate-number, constant-elements}
+use Rattle.nodes.proofs.ReadLaw.{operation-shaped, iota-number, concatenate-number, constant-reads, constant-elements}
 
 -- two types of one meaning, by the lists of their dimensions
 pub same-node-type : (x y : TensorType) → ShapeRead (x .shape) → ShapeRead (y .shape) → sameType x y ≡ true → nodeType x ≡ nodeType y
@@ -121,6 +121,10 @@ module _ (text : List ℕ) (op : Parts) (values : List Value) (n : ℕ) (typed :
   one-number Pad r = tt
   one-number DynamicSlice r = tt
   one-number (Reduce body) r = tt
+
+  pub typed-constant : kindOf text op ≡ Constant → (stands text op value ≡ true) × (denseFits text (nameOf text op value) ≡ true)
+  unfolding rowOf
+  typed-constant e = constant-reads text op row inside (parts .attributes) (row-of-kind .rule ∙ ap ruleOf e)
 
   module _ (held : brokenBy (rowOf text op .rule) (operationOf text op (rowOf text op)) ≡ 0) where
     pub typed-accepted : AcceptedAs (kindOf text op) (operationOf text op (rowOf text op))
