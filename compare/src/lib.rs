@@ -12,6 +12,16 @@ type Exported = unsafe extern "C" fn(*const u8, usize, *mut u64, usize) -> u64;
 extern "C" {
     fn bench_check(text: *const u8, text_length: usize, place: *mut u64, place_length: usize) -> u64;
     fn bench_read(text: *const u8, text_length: usize, place: *mut u64, place_length: usize) -> u64;
+    fn bench_evaluate(
+        text: *const u8,
+        text_length: usize,
+        inputs: *const u64,
+        input_count: usize,
+        store: *mut u64,
+        store_length: usize,
+        place: *mut u64,
+        place_length: usize,
+    ) -> u64;
 }
 
 /// How far a text is judged.
@@ -45,6 +55,25 @@ pub fn proved(depth: Depth, text: &[u8]) -> Answer {
     let mut place = [0u64; 2];
     // SAFETY: both slices are valid for the call, and the function has no `requires`.
     let refusal = unsafe { depth.exported()(text.as_ptr(), text.len(), place.as_mut_ptr(), place.len()) };
+    Answer { refusal, a: place[0], b: place[1] }
+}
+
+/// The answer of the proved evaluation, over the store.
+pub fn evaluated(text: &[u8], inputs: &[u64], store: &mut [u64]) -> Answer {
+    let mut place = [0u64; 2];
+    // SAFETY: all four slices are valid for the call, the two that are written overlap nothing, and the function has no `requires`.
+    let refusal = unsafe {
+        bench_evaluate(
+            text.as_ptr(),
+            text.len(),
+            inputs.as_ptr(),
+            inputs.len(),
+            store.as_mut_ptr(),
+            store.len(),
+            place.as_mut_ptr(),
+            place.len(),
+        )
+    };
     Answer { refusal, a: place[0], b: place[1] }
 }
 

@@ -1,15 +1,14 @@
 //! Runs the proved library beside the second evaluator.
 //!
-//! `compare stream`: cases in the stream form on standard input, a line `REFUSAL A B` for each, by the proved code: refusals
-//! 0 to 8, so a case whose inputs or store would be refused, or that meets a zero divisor, has 0.
+//! `compare stream`: cases in the stream form on standard input, a line `REFUSAL A B HASH` for each, by the proved code.
 //! `compare check SEED COUNT`: generated cases, the proved code against the second evaluator: refusals 0 to 4 by reading
-//! alone, and refusals 0 to 8.
+//! alone, refusals 0 to 8 by checking, and refusals 0 to 12 with every slot of the store by evaluating.
 //! `compare prefixes FOLDER`: every prefix of every `.mlir` file of a folder, refusals 0 to 8.
 //! `compare hostile`: texts made to exhaust a reader, both ways, with their time: reading in a thread with a stack of 2 MiB,
 //! checking in one of 8 MiB; each has to end within a second.
 //! All but `stream` end with status 1 on a difference.
 
-use compare::{expected, place_kept, proved, up_to, Depth};
+use compare::{evaluated, expected, place_kept, proved, up_to, Depth};
 use evaluator::{cases, stream};
 use std::io::{self, Write};
 use std::process::ExitCode;
@@ -46,21 +45,32 @@ fn answer_stream() -> Result<bool, String> {
     let mut input = io::stdin().lock();
     let mut output = io::BufWriter::new(io::stdout().lock());
     while let Some(case) = stream::read_case(&mut input)? {
-        let answer = proved(Depth::Check, &case.text);
-        writeln!(output, "{} {} {}", answer.refusal, answer.a, answer.b).map_err(|error| error.to_string())?;
+        let mut store = stream::old_store(case.seed, case.store_length);
+        let answer = evaluated(&case.text, &case.inputs, &mut store);
+        writeln!(output, "{}", stream::answer_line(answer, &store)).map_err(|error| error.to_string())?;
     }
     output.flush().map_err(|error| error.to_string())?;
     Ok(true)
 }
 
-/// Generated cases, one by one: what reading answers, and what checking answers.
+/// Generated cases, one by one: what reading, what checking and what evaluating answers.
 fn compare_cases(seed: u64, count: u64) -> Result<bool, String> {
     let mut differences = 0;
-    let mut refusals = [0u64; 9];
+    let mut refusals = [0u64; 13];
     for index in 0..count {
-        let text = cases::generate(seed, index).case.text;
+        let case = cases::generate(seed, index).case;
+        let mut store = stream::old_store(case.seed, case.store_length);
+        let mut slots = store.clone();
+        let ran = evaluator::evaluate(&case.text, &case.inputs, &mut store);
+        refusals[ran.refusal as usize] += 1;
+        let answer = evaluated(&case.text, &case.inputs, &mut slots);
+        if answer != ran || slots != store {
+            differences += 1;
+            let first = (0..slots.len()).find(|&slot| slots[slot] != store[slot]);
+            println!("case {index} of seed {seed}: evaluated {answer:?}, second evaluator {ran:?}, first other slot {first:?}");
+        }
+        let text = case.text;
         let theirs = evaluator::check(&text);
-        refusals[theirs.refusal as usize] += 1;
         for depth in [Depth::Read, Depth::Check] {
             let (ours, wanted) = (proved(depth, &text), up_to(depth, theirs));
             if ours != wanted {

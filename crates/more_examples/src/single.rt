@@ -3,7 +3,7 @@ ghost use mathlib.Core.Path.{_≡_};
 ghost use mathlib.Core.Bool.{true};
 ghost use lib.ListN.{length};
 ghost use Rattle.lists.specs.Lists.{tab};
-ghost use Rattle.element.specs.declared.ElementType.{I32};
+ghost use Rattle.element.specs.declared.ElementType.the-variants.{I32};
 ghost use Rattle.elementwise.specs.Elementwise.{SelectSized, ClampSized, selectAt, clampAt};
 use crate::given;
 use element::ElementType;

@@ -6,6 +6,7 @@ use Prim.Native.Nat.{ℕ, zero, suc, _+_, _*_, _≤_, _<_}
 use native.Mathlib.Decide.{decLe}
 use native.Mathlib.Omega.{arith}
 use lib.ListN.{getD}
+use Rattle.lists.proofs.TabLaw.{getD-tab}
 use Rattle.shape.specs.Dims.{dimsOf}
 use Rattle.shape.proofs.IndexLaw.{size-le-volume}
 use Rattle.dimrules.specs.Count.{sumBelow}
@@ -14,13 +15,18 @@ use Rattle.program.specs.declared.Program.{Program}
 use Rattle.values.specs.declared.Values.{Values}
 use Rattle.values.specs.Values.{noValue, valuesIn}
 use Rattle.values.proofs.ValuesLaw.{value-sized, count-few}
-use Rattle.offsets.specs.Offsets.{sizeAt, offsetAt, neededOf, ValuesRead}
+use Rattle.offsets.specs.Offsets.{sizeAt, offsetAt, offsetsOf, neededOf, ValuesRead}
 
 -- the values of every program are read
 pub values-read : (text : List ℕ) (p : Program) → ValuesRead (valuesIn text p)
 values-read text p = record { few = count-few text p; sized = λ i h. value-sized text p i }
 
 module _ (vs : Values) where
+  -- the offset of value i as the array holds it
+  pub offset-read : (starts : List ℕ) → starts ≡ offsetsOf vs → (i : ℕ) → i < 264 → getD starts i 0 ≡ offsetAt vs i
+  unfolding offsetsOf
+  offset-read starts e i h = rw e (getD-tab 264 (offsetAt vs) i 0 h)
+
   pub offset-next : (i : ℕ) → offsetAt vs (i + 1) ≡ offsetAt vs i + sizeAt vs i
   unfolding offsetAt
   offset-next i = sum-next i (sizeAt vs)

@@ -6,7 +6,7 @@ ghost use Prim.Native.Nat.{_<_};
 ghost use Rattle.offsets.specs.Offsets.{ValuesRead, sizeAt, offsetsOf, neededOf};
 
 // How many elements value i has.
-fn value_size(vs: Values, i: usize) -> usize
+pub fn value_size(vs: Values, i: usize) -> usize
     requires { ⌜ (i < 264) × ValuesRead vs ⌝ }
     ensures { λ r. ⌜ r ≡ sizeAt vs i ⌝ }
 {

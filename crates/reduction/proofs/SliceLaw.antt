@@ -1,22 +1,19 @@
 -- The shape of an input slice is within 01's sizes.
 -- Assumes nothing.
-use mathlib.Core.Path.{_≡_, refl, ap}
-use mathlib.Core.List.{List, [], _∷_, _++_}
+use mathlib.Core.Path.{_≡_, refl}
+use mathlib.Core.List.{List}
 use Prim.Native.Nat.{ℕ, _≤_, min}
 use native.Mathlib.Omega.{arith}
-use lib.ListN.{length, take, length-take}
+use lib.ListN.{length, length-take}
+use lib.Seq.{take-at}
 use Rattle.shape.specs.Index.{at, volume}
 use Rattle.shape.specs.Dims.{dimsOf, shapeFrom, Sized}
 use Rattle.shape.specs.declared.Shape.{Shape}
 use Rattle.reduction.specs.Rows.{isIn, sliceShape}
 use Rattle.reduction.proofs.CollectLaw.{collect-few, volume-collect}
 
-take-front : (u z : List ℕ) → take (length u) (u ++ z) ≡ u
-take-front [] z = refl
-take-front (x ∷ u) z = ap (λ (l : List ℕ). x ∷ l) (take-front u z)
-
 pub dims-from : (ds : List ℕ) → dimsOf (shapeFrom ds) ≡ ds
-dims-from ds = take-front ds _
+dims-from ds = take-at ds _ (length ds) refl
 
 pub slice-sized : (from : Shape) (dimensions : List ℕ) → Sized from → Sized (shapeFrom (sliceShape dimensions (dimsOf from)))
 slice-sized from dimensions s =

@@ -1,11 +1,12 @@
 -- The index of a position and back; the canonical order is that of all indices, last dimension fastest.
 -- Assumes nothing.
-use mathlib.Core.Path.{_≡_, refl, sym, ap, _∙_, subst}
-use mathlib.Core.List.{List, [], _∷_, _++_, map}
+use mathlib.Core.Path.{_≡_, refl, sym, ap, _∙_}
+use mathlib.Core.List.{List, [], _∷_, map}
 use Prim.Native.Nat.{ℕ, zero, suc, _+_, _*_, _-_, _/_, _%_, _≤_, _<_, suc-le-suc, max}
-use native.Mathlib.Nat.{not-suc-le-zero, le-of-suc-le-suc, zero-lt-suc, mod-lt, div-add-mod', div-lt-iff-lt-mul, mul-pos, mul-le-mul, mul-zero, mul-le-mul-left, zero-mul, add-zero, suc-ne-zero, suc-inj, mul-add-div-right, div-eq-of-lt, mul-add-mod-self-right, mod-eq-of-lt, zero-add, suc-add}
+use native.Mathlib.Nat.{not-suc-le-zero, le-of-suc-le-suc, zero-lt-suc, suc-ne-zero, suc-inj, add-zero, mul-pos, mul-le-mul, mul-le-mul-right}
+use native.Mathlib.Nat.{mod-lt, div-add-mod', div-lt-iff-lt-mul, mul-add-div-right, div-eq-of-lt, mul-add-mod-self-right, mod-eq-of-lt}
 use native.Mathlib.Omega.{arith}
-use lib.ListN.{length, drop, replicate, length-drop}
+use lib.ListN.{length, drop, length-drop}
 use lib.Seq.{getD-drop}
 use Rattle.lists.specs.Lists.{tab, concat}
 use Rattle.lists.proofs.TabLaw.{length-tab, tab-cong, tab-blocks, map-tab}
@@ -14,12 +15,11 @@ use Rattle.shape.specs.Index.{at, size, volume, unravel, ravel, Within, 
 
 -- ---- position to index and back
 
-pub size-pos-tail : (d : ℕ) (ds : List ℕ) {k : ℕ} → k < size (d ∷ ds) → 0 < size ds
-size-pos-tail d ds {k} h = go (size ds) refl
-  where
-    go : (n : ℕ) → size ds ≡ n → 0 < size ds
-    go zero e = let z : d * size ds ≡ 0 = ap (λ (n : ℕ). d * n) e ∙ mul-zero d in omega arith
-    go (suc n) e = omega arith
+-- below a product of two numbers there is something only where neither is 0
+pub factors-pos : (a b : ℕ) {k : ℕ} → k < a * b → (0 < a) × (0 < b)
+factors-pos zero b h = omega arith
+factors-pos (suc a) zero h = omega arith
+factors-pos (suc a) (suc b) h = omega arith
 
 pub length-unravel : (s : List ℕ) (k : ℕ) → length (unravel s k) ≡ length s
 length-unravel [] k = refl
@@ -28,50 +28,40 @@ length-unravel (d ∷ ds) k = ap suc (length-unravel ds (k % size ds))
 pub ravel-unravel : (s : List ℕ) (k : ℕ) → k < size s → ravel s (unravel s k) ≡ k
 ravel-unravel [] k h = omega arith
 ravel-unravel (d ∷ ds) k h =
-    ap (λ (n : ℕ). k / size ds * size ds + n) (ravel-unravel ds (k % size ds) (mod-lt k (size-pos-tail d ds h)))
+    ap (λ (n : ℕ). k / size ds * size ds + n) (ravel-unravel ds (k % size ds) (mod-lt k (factors-pos d (size ds) h .1)))
     ∙ div-add-mod' k (size ds)
 
 pub within-unravel : (s : List ℕ) (k : ℕ) → k < size s → Within s (unravel s k)
 within-unravel [] k h n l = absurd (not-suc-le-zero l)
-within-unravel (d ∷ ds) k h zero l = div-lt-iff-lt-mul (size-pos-tail d ds h) .1 h
-within-unravel (d ∷ ds) k h (suc n) l = within-unravel ds (k % size ds) (mod-lt k (size-pos-tail d ds h)) n (le-of-suc-le-suc l)
+within-unravel (d ∷ ds) k h zero l = div-lt-iff-lt-mul (factors-pos d (size ds) h .1) .1 h
+within-unravel (d ∷ ds) k h (suc n) l = within-unravel ds (k % size ds) (mod-lt k (factors-pos d (size ds) h .1)) n (le-of-suc-le-suc l)
 
 pub index-of-unravel : (s : List ℕ) (k : ℕ) → k < size s → IndexOf s (unravel s k)
 index-of-unravel s k h = record { rank = length-unravel s k; within = within-unravel s k h }
 
-within-tail : (d x : ℕ) (ds i : List ℕ) → Within (d ∷ ds) (x ∷ i) → Within ds i
-within-tail d x ds i w n l = w (suc n) (suc-le-suc l)
-
-within-nil : (d : ℕ) (ds : List ℕ) → Within (d ∷ ds) [] → Within ds []
-within-nil d ds w n l = w (suc n) (suc-le-suc l)
-
--- x < d and r < s: x * s + r < d * s
-digit-lt : (x d s r : ℕ) → x < d → r < s → x * s + r < d * s
-digit-lt x d s r h l =
-    let m : suc x * s ≤ d * s = mul-le-mul h (omega arith) in
-    let e : suc x * s ≡ x * s + s = omega arith in
-    omega arith
-
 pub ravel-lt : (s i : List ℕ) → Within s i → ravel s i < size s
 ravel-lt [] i w = omega arith
-ravel-lt (d ∷ ds) [] w = mul-pos (w zero (zero-lt-suc (length ds))) (omega (arith, ravel-lt ds [] (within-nil d ds w)))
-ravel-lt (d ∷ ds) (x ∷ i) w = digit-lt x d (size ds) (ravel ds i) (w zero (zero-lt-suc (length ds))) (ravel-lt ds i (within-tail d x ds i w))
+ravel-lt (d ∷ ds) [] w = mul-pos (w zero (zero-lt-suc (length ds))) (omega (arith, ravel-lt ds [] (λ n l. w (suc n) (suc-le-suc l))))
+ravel-lt (d ∷ ds) (x ∷ i) w =
+    let m : suc x * size ds ≤ d * size ds = mul-le-mul-right (size ds) (w zero (zero-lt-suc (length ds))) in
+    omega (arith, ravel-lt ds i (λ n l. w (suc n) (suc-le-suc l)))
+
+-- the first coordinate, and the index of what is left
+unravel-cons : (d x : ℕ) (ds : List ℕ) (k : ℕ) → k < size ds → unravel (d ∷ ds) (x * size ds + k) ≡ x ∷ unravel ds k
+unravel-cons d x ds k b =
+    let p : 0 < size ds = omega arith in
+    rw (mul-add-div-right p x k, div-eq-of-lt b, add-zero x, mul-add-mod-self-right x (size ds) k, mod-eq-of-lt b)
 
 pub unravel-ravel : (s i : List ℕ) → length i ≡ length s → Within s i → unravel s (ravel s i) ≡ i
 unravel-ravel [] [] e w = refl
 unravel-ravel [] (x ∷ i) e w = absurd (suc-ne-zero (length i) e)
 unravel-ravel (d ∷ ds) [] e w = absurd (suc-ne-zero (length ds) (sym e))
 unravel-ravel (d ∷ ds) (x ∷ i) e w =
-    let b : ravel ds i < size ds = ravel-lt ds i (within-tail d x ds i w) in
-    let p : 0 < size ds = omega arith in
-    let q : (x * size ds + ravel ds i) / size ds ≡ x = mul-add-div-right p x (ravel ds i) ∙ ap (λ (n : ℕ). x + n) (div-eq-of-lt b) ∙ add-zero x in
-    let r : (x * size ds + ravel ds i) % size ds ≡ ravel ds i = mul-add-mod-self-right x (size ds) (ravel ds i) ∙ mod-eq-of-lt b in
-    ap (λ (n : ℕ). n ∷ unravel ds ((x * size ds + ravel ds i) % size ds)) q
-    ∙ ap (λ (n : ℕ). x ∷ unravel ds n) r
-    ∙ ap (λ (l : List ℕ). x ∷ l) (unravel-ravel ds i (suc-inj e) (within-tail d x ds i w))
+    unravel-cons d x ds (ravel ds i) (ravel-lt ds i (λ n l. w (suc n) (suc-le-suc l)))
+    ∙ ap (λ (l : List ℕ). x ∷ l) (unravel-ravel ds i (suc-inj e) (λ n l. w (suc n) (suc-le-suc l)))
 
 pub within-drop : (n : ℕ) (s i : List ℕ) → Within s i → Within (drop n s) (drop n i)
-within-drop n s i w d h = rw (getD-drop, getD-drop) (w (n + d) (let e : length (drop n s) ≡ length s - n = length-drop n s in omega arith))
+within-drop n s i w d h = rw (getD-drop n i d 0, getD-drop n s d 0) (w (n + d) (let e : length (drop n s) ≡ length s - n = length-drop n s in omega arith))
 
 -- ---- sizes
 
@@ -82,9 +72,6 @@ volume-pos (d ∷ ds) = mul-pos (omega arith) (volume-pos ds)
 pub size-le-volume : (s : List ℕ) → size s ≤ volume s
 size-le-volume [] = omega arith
 size-le-volume (d ∷ ds) = mul-le-mul (omega arith) (size-le-volume ds)
-
-pub le-mul-volume : (n : ℕ) (s : List ℕ) → n ≤ n * volume s
-le-mul-volume n s = let m : n * 1 ≤ n * volume s = mul-le-mul-left n (volume-pos s) in omega arith
 
 -- each dimension is at most the product
 pub dim-le-volume : (s : List ℕ) (d : ℕ) → d < length s → at s d ≤ volume s
@@ -102,14 +89,8 @@ indices-tab [] = refl
 indices-tab (d ∷ ds) =
     tab-blocks d (size ds) (unravel (d ∷ ds))
     ∙ ap {B = List (List ℕ)} concat (tab-cong d (λ x. tab (size ds) (λ k. unravel (d ∷ ds) (x * size ds + k))) (λ x. map (λ i. x ∷ i) (indices ds))
-    (λ x h.
-    tab-cong (size ds) (λ k. unravel (d ∷ ds) (x * size ds + k)) (λ k. x ∷ unravel ds k)
-    (λ k b.
-    let p : 0 < size ds = omega arith in
-    ap (λ (n : ℕ). n ∷ unravel ds ((x * size ds + k) % size ds)) (mul-add-div-right p x k ∙ ap (λ (n : ℕ). x + n) (div-eq-of-lt b) ∙ add-zero x)
-    ∙ ap (λ (n : ℕ). x ∷ unravel ds n) (mul-add-mod-self-right x (size ds) k ∙ mod-eq-of-lt b))
-    ∙ sym (map-tab (λ i. x ∷ i) (size ds) (unravel ds))
-    ∙ ap (map (λ i. x ∷ i)) (indices-tab ds)))
+    (λ x h. tab-cong (size ds) (λ k. unravel (d ∷ ds) (x * size ds + k)) (λ k. x ∷ unravel ds k) (unravel-cons d x ds)
+    ∙ sym (map-tab (λ i. x ∷ i) (size ds) (unravel ds)) ∙ ap (map (λ i. x ∷ i)) (indices-tab ds)))
 
 pub tabulate-map : {A : Type 0} (s : List ℕ) (f : List ℕ → A) → tabulate s f ≡ map f (indices s)
 tabulate-map s f = sym (map-tab f (size s) (unravel s)) ∙ ap (map f) (indices-tab s)

@@ -1,61 +1,37 @@
-use Prim.Native.Nat.{ℕ, _≤_, _*_, _-_, _+_}
-use mathlib.Core.Path.{_≡_, _∙_, sym, ap}
-use mathlib.Core.List.{List}
+use Prim.Native.Nat.{_≤_, _*_, _-_}
+use mathlib.Core.Path.{_≡_}
 use native.Mathlib.Omega.{arith}
-use native.Mathlib.Nat.{mul-one, one-mul}
-use lib.ListN.{length, take, getD}
+use native.Mathlib.Nat.{one-mul}
+use lib.ListN.{length, take}
 use Rattle.shape.specs.Index.{size, volume, rest}
-use Rattle.shape.proofs.IndexLaw.{le-mul-volume}
-use Rattle.shape.proofs.DimensionLaw.{size-step, volume-step, rest-all}
+use Rattle.shape.proofs.DimensionLaw.{rest-cons, rest-all, size-turn}
 use borrow.Author.Needs.{needs}
 use Rattle.shape.proofs.size_of.Statement.{statement}
 use Rattle.shape.proofs.size_of.Tie as tie
 
 abbrev Inv-loop : tie.InvT-loop
-Inv-loop rank dims n₀ d₀ n d = (d ≤ rank) × (n * size (rest dims rank d) ≡ size (take rank dims)) × (n * volume (rest dims rank d) ≤ 4096)
+Inv-loop rank dims n₀ d₀ n d =
+    (d ≤ rank) × (rank ≤ length dims) × (n ≤ 4096) × (n * size (rest dims rank d) ≡ size (take rank dims)) × (n * volume (rest dims rank d) ≤ 4096)
 
 abbrev μ-loop : tie.MeasureT-loop
 μ-loop rank dims n₀ d₀ n d = rank - d
 
 loop-holds : tie.Need-loop-holds Inv-loop μ-loop
-loop-holds c = (omega arith, one-mul _, rw one-mul (c .before .pre .volume))
-
-mul-n-2 : tie.Need-mul-n-2 Inv-loop μ-loop
-mul-n-2 c =
-    let s = c .before .before .before .args .s in
-    let six : length (s .dims) ≡ 6 = search needs in
-    let n : ℕ = c .before .loop .n in
-    let d : ℕ = c .before .loop .d in
-    omega (arith, volume-step (s .dims) (s .rank) d (omega arith) (omega arith) n (c .before .loop .inv .2), le-mul-volume (n * getD (s .dims) d 0) (rest (s .dims) (s .rank) (d + 1)))
+loop-holds c =
+    let six : length (c .before .args .s .dims) ≡ 6 = search needs in
+    (omega arith, omega arith, omega arith, one-mul _, rw one-mul (c .before .pre .volume))
 
 loop-again : tie.Need-loop-again Inv-loop μ-loop
 loop-again c =
-    let s = c .before .before .before .args .s in
-    let six : length (s .dims) ≡ 6 = search needs in
-    let n : ℕ = c .before .loop .n in
-    let d : ℕ = c .before .loop .d in (
-      omega arith,
-      size-step (s .dims) (s .rank) d (omega arith) (omega arith) n ∙ c .before .loop .inv .1,
-      volume-step (s .dims) (s .rank) d (omega arith) (omega arith) n (c .before .loop .inv .2),
-    )
+    let l = c .before .loop in
+    let t = size-turn (rest-cons (c .before .before .before .args .s .dims) _ _ (c .loop-test .taken) (l .inv .1)) (l .n) _ (l .inv .3) (l .inv .4) in
+    (omega arith, l .inv .1, t .0, t .1, t .2)
 
 returns : tie.Need-returns Inv-loop μ-loop
-returns c =
-    let s = c .before .before .before .args .s in
-    let n : ℕ = c .before .loop .n in
-    sym (mul-one n) ∙ ap (λ (l : List ℕ). n * size l) (sym (rest-all (s .dims) (s .rank) (c .before .loop .d) (omega arith))) ∙ c .before .loop .inv .1
+returns c = omega (arith, rw (rest-all (c .before .before .before .args .s .dims) _ _ (c .loop-test .left)) at (c .before .loop .inv .3))
 
+-- the product of a turn fits, since what the loop keeps says so of the next turn
 pub size-of-spec : {M : Type 1} → statement M
 size-of-spec =
-    tie.close
-    (tie.spec
-    Inv-loop
-    μ-loop
-    loop-holds
-    (λ c. search needs)
-    (λ c. search needs)
-    mul-n-2
-    (λ c. search needs)
-    (λ c. search needs)
-    loop-again
-    returns)
+    tie.close (tie.spec Inv-loop μ-loop loop-holds (λ c. search needs) (λ c. search needs) (λ c. omega (arith, loop-again c))
+    (λ c. search needs) (λ c. search needs) loop-again returns)

@@ -1,62 +1,37 @@
-use Prim.Native.Nat.{ℕ, _≤_, _<_, _+_, _*_, _-_, min, max}
-use mathlib.Core.Path.{_≡_, _∙_, sym, ap}
-use mathlib.Core.List.{List}
+use Prim.Native.Nat.{_≤_, _*_, _-_, min}
+use mathlib.Core.Path.{_≡_}
 use native.Mathlib.Omega.{arith}
-use native.Mathlib.Nat.{mul-one, one-mul, mul-pos}
-use lib.ListN.{length, take, getD}
+use native.Mathlib.Nat.{one-mul}
+use lib.ListN.{length, take}
 use Rattle.shape.specs.Index.{volume, rest}
-use Rattle.shape.proofs.IndexLaw.{volume-pos}
-use Rattle.shape.proofs.DimensionLaw.{rest-all, volume-cons, capped-step}
+use Rattle.shape.proofs.DimensionLaw.{rest-cons, rest-all, volume-turn}
 use borrow.Author.Needs.{needs}
 use Rattle.shape.proofs.volume_of.Statement.{statement}
 use Rattle.shape.proofs.volume_of.Tie as tie
 
 abbrev Inv-loop : tie.InvT-loop
 Inv-loop rank dims n₀ d₀ n d =
-    (d ≤ rank) × (1 ≤ n) × (n ≤ 4097) × (min (n * volume (rest dims rank d)) 4097 ≡ min (volume (take rank dims)) 4097)
+    (d ≤ rank) × (rank ≤ length dims) × (1 ≤ n) × (n ≤ 4097) × (min (n * volume (rest dims rank d)) 4097 ≡ min (volume (take rank dims)) 4097)
 
 abbrev μ-loop : tie.MeasureT-loop
 μ-loop rank dims n₀ d₀ n d = rank - d
 
 loop-holds : tie.Need-loop-holds Inv-loop μ-loop
-loop-holds c = (omega arith, omega arith, omega arith, rw one-mul)
+loop-holds c =
+    let six : length (c .before .args .s .dims) ≡ 6 = search needs in
+    (omega arith, omega arith, omega arith, omega arith, rw one-mul)
 
 loop-again : tie.Need-loop-again Inv-loop μ-loop
 loop-again c =
-    let s = c .before .before .before .before .args .s in
-    let six : length (s .dims) ≡ 6 = search needs in
-    let n : ℕ = c .before .before .loop .n in
-    let d : ℕ = c .before .before .loop .d in
-    let v : ℕ = volume (rest (s .dims) (s .rank) (d + 1)) in
-    let one : 0 < n * max 1 (getD (s .dims) d 0) = mul-pos (omega arith) (omega arith) in (
-      omega arith,
-      omega arith,
-      omega arith,
-      ap (λ (m : ℕ). min (m * v) 4097) (c .capped-product .ensures)
-          ∙ capped-step (n * max 1 (getD (s .dims) d 0)) v (volume-pos (rest (s .dims) (s .rank) (d + 1)))
-          ∙ ap (λ (m : ℕ). min m 4097) (sym (volume-cons (s .dims) (s .rank) d (omega arith) (omega arith) n))
-          ∙ c .before .before .loop .inv .3,
-    )
+    let l = c .before .before .loop in
+    let e = rest-cons (c .before .before .before .before .args .s .dims) _ _ (c .before .loop-test .taken) (l .inv .1) in
+    let t = volume-turn e (l .n) _ (c .capped-product .result) (l .inv .2) (l .inv .4) (c .capped-product .ensures) in
+    (omega arith, l .inv .1, t .0, t .1, t .2)
 
 returns : tie.Need-returns Inv-loop μ-loop
-returns c =
-    let s = c .before .before .before .args .s in
-    let n : ℕ = c .before .loop .n in
-    let e : min n 4097 ≡ min (volume (take (s .rank) (s .dims))) 4097 =
-    ap (λ (m : ℕ). min m 4097) (sym (mul-one n) ∙ ap (λ (l : List ℕ). n * volume l) (sym (rest-all (s .dims) (s .rank) (c .before .loop .d) (omega arith)))) ∙ c .before .loop .inv .3 in
-    omega arith
+returns c = omega (arith, rw (rest-all (c .before .before .before .args .s .dims) _ _ (c .loop-test .left)) at (c .before .loop .inv .4))
 
 pub volume-of-spec : {M : Type 1} → statement M
 volume-of-spec =
-    tie.close
-    (tie.spec
-    Inv-loop
-    μ-loop
-    loop-holds
-    (λ c. search needs)
-    (λ c. search needs)
-    (λ c κs. search needs)
-    (λ c. search needs)
-    (λ c. search needs)
-    loop-again
-    returns)
+    tie.close (tie.spec Inv-loop μ-loop loop-holds (λ c. search needs) (λ c. search needs) (λ c κs. search needs)
+    (λ c. search needs) (λ c. search needs) loop-again returns)

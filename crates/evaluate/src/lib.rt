@@ -1,0 +1,224 @@
+// Evaluating a text over the store (01, "The store"): refusals 0 to 12, and what the store then holds.
+ghost use mathlib.Core.Path.{_≡_};
+ghost use Prim.Native.Nat.{_+_, _≤_, _<_};
+ghost use lib.ListN.{length, take};
+ghost use Rattle.judge.specs.Judge.{refuse};
+ghost use Rattle.program.specs.Program.{programOf};
+ghost use Rattle.values.specs.Values.{opsOf, valuesOf};
+ghost use Rattle.offsets.specs.Offsets.{offsetAt, neededOf};
+ghost use Rattle.verify.specs.Verify.{verdict};
+ghost use Rattle.inputs.specs.Inputs.{inputSlots, firstForeign};
+ghost use Rattle.steps.specs.Steps.{opMeaning, Held, Accepts};
+ghost use Rattle.evaluation.specs.Evaluated.{ran, fitted, evaluated, answer};
+ghost use Rattle.evaluation.specs.Order.{OrderFreeAnswer};
+ghost use Rattle.evaluation.specs.State.{Stretch, Written, Started, zeroed, copied};
+use constants::constant_into;
+use doing::zero_into;
+use elementwise::Step;
+use inputs::first_foreign;
+use inputs::input_slots;
+use judge::Refusal;
+use offsets::needed_of;
+use offsets::offsets_of;
+use offsets::value_size;
+use program::Program;
+use program::program_of;
+use steps::op_step;
+use values::Values;
+use values::ops_of;
+use values::values_in;
+use verify::check;
+
+// Op k, whose stretch is at..end: it is filled in the store and copied to `done`, which holds all values before it.
+fn fill_at(
+    text: &[u8],
+    p: Program,
+    vs: Values,
+    starts: [usize; 264],
+    k: usize,
+    at: usize,
+    end: usize,
+    done: &mut [u64],
+    store: &mut [u64],
+) -> Step
+    requires { ⌜ Accepts (now text) p vs starts × (k < opsOf p) × Held vs (vs .inputs + k) (now done) ⌝ }
+    requires { ⌜ Stretch vs (vs .inputs + k) at end (length (now done)) (length (now store)) ⌝ }
+    ensures { λ r. ⌜ Written (opMeaning (now (text .entry)) k (now (done .entry))) at end r (now (done .entry)) (now (done .exit)) (now (store .entry)) (now (store .exit)) ⌝ }
+{
+    let step = op_step(text, p, vs, starts, k, done, &mut store[at..end]);
+    match step {
+        Step::Filled => {
+            constant_into(&store[at..end], &mut done[at..end]);
+            Step::Filled
+        }
+        Step::Zero(z) => Step::Zero(z),
+    }
+}
+
+// Op k.
+fn fill(
+    text: &[u8],
+    p: Program,
+    vs: Values,
+    starts: [usize; 264],
+    k: usize,
+    done: &mut [u64],
+    store: &mut [u64],
+) -> Step
+    requires { ⌜ Accepts (now text) p vs starts × (k < opsOf p) × Held vs (vs .inputs + k) (now done) ⌝ }
+    requires { ⌜ (neededOf vs ≤ length (now done)) × (neededOf vs ≤ length (now store)) × (neededOf vs ≤ 8192) ⌝ }
+    ensures { λ r. ⌜ Written (opMeaning (now (text .entry)) k (now (done .entry))) (offsetAt vs (vs .inputs + k)) (offsetAt vs (vs .inputs + k + 1)) r (now (done .entry)) (now (done .exit)) (now (store .entry)) (now (store .exit)) ⌝ }
+{
+    let i = vs.inputs + k;
+    let at = starts[i];
+    let end = at + value_size(vs, i);
+    fill_at(text, p, vs, starts, k, at, end, done, store)
+}
+
+// Zeros from slot at to slot end.
+fn zero_from(at: usize, end: usize, store: &mut [u64])
+    requires { ⌜ (at ≤ end) × (end ≤ length (now store)) × (end ≤ 8192) ⌝ }
+    ensures { λ _. ⌜ now (store .exit) ≡ zeroed at end (now (store .entry)) ⌝ }
+{
+    zero_into(&mut store[at..end]);
+}
+
+// All ops. The inputs stand in the store and in `done`.
+fn run_ops(
+    text: &[u8],
+    p: Program,
+    vs: Values,
+    starts: [usize; 264],
+    needed: usize,
+    done: &mut [u64],
+    store: &mut [u64],
+) -> Refusal
+    requires { ⌜ Accepts (now text) p vs starts × (needed ≡ neededOf vs) × Started vs (now done) (now store) ⌝ }
+    ensures { λ r. ⌜ answer r (now (store .exit)) ≡ ran (now (text .entry)) (take (inputSlots vs) (now (store .entry))) (now (store .entry)) ⌝ }
+{
+    let n = ops_of(p);
+    let mut k = 0;
+    while k < n {
+        let step = fill(text, p, vs, starts, k, done, store);
+        match step {
+            Step::Filled => {
+                k += 1;
+            }
+            Step::Zero(z) => {
+                let at = starts[vs.inputs + k];
+                zero_from(at, needed, store);
+                return Refusal {
+                    number: 12,
+                    a: k,
+                    b: z,
+                };
+            }
+        }
+    }
+    Refusal {
+        number: 0,
+        a: 0,
+        b: 0,
+    }
+}
+
+// Copies x to the front of out.
+fn copy_front(x: &[u64], out: &mut [u64])
+    requires { ⌜ length (now x) ≤ length (now out) ⌝ }
+    ensures { λ _. ⌜ now (out .exit) ≡ copied (now (x .entry)) (now (out .entry)) ⌝ }
+{
+    let n = x.len();
+    constant_into(x, &mut out[0..n]);
+}
+
+// The inputs are copied to the store and to `done`, then the ops are done.
+fn run_over(
+    text: &[u8],
+    p: Program,
+    vs: Values,
+    needed: usize,
+    inputs: &[u64],
+    done: &mut [u64],
+    store: &mut [u64],
+) -> Refusal
+    requires { ⌜ (verdict (now text) .number ≡ 0) × (p ≡ programOf (now text)) × (vs ≡ valuesOf (now text)) × (needed ≡ neededOf vs) ⌝ }
+    requires { ⌜ (length (now inputs) ≡ inputSlots vs) × (firstForeign vs (now inputs) ≡ inputSlots vs) ⌝ }
+    requires { ⌜ (length (now done) ≡ 8192) × (needed ≤ length (now store)) ⌝ }
+    ensures { λ r. ⌜ answer r (now (store .exit)) ≡ ran (now (text .entry)) (now (inputs .entry)) (now (store .entry)) ⌝ }
+{
+    let starts = offsets_of(vs);
+    copy_front(inputs, done);
+    copy_front(inputs, store);
+    run_ops(text, p, vs, starts, needed, done, store)
+}
+
+// A program on inputs that fit.
+fn run_program(
+    text: &[u8],
+    p: Program,
+    vs: Values,
+    needed: usize,
+    inputs: &[u64],
+    store: &mut [u64],
+) -> Refusal
+    requires { ⌜ (verdict (now text) .number ≡ 0) × (p ≡ programOf (now text)) × (vs ≡ valuesOf (now text)) × (needed ≡ neededOf vs) ⌝ }
+    requires { ⌜ (length (now inputs) ≡ inputSlots vs) × (firstForeign vs (now inputs) ≡ inputSlots vs) × (needed ≤ length (now store)) ⌝ }
+    ensures { λ r. ⌜ answer r (now (store .exit)) ≡ ran (now (text .entry)) (now (inputs .entry)) (now (store .entry)) ⌝ }
+{
+    let mut done = [0u64; 8192];
+    run_over(text, p, vs, needed, inputs, &mut done, store)
+}
+
+// Refusals 9 to 12 of an accepted text.
+fn run_fitted(text: &[u8], p: Program, vs: Values, inputs: &[u64], store: &mut [u64]) -> Refusal
+    requires { ⌜ (verdict (now text) .number ≡ 0) × (p ≡ programOf (now text)) × (vs ≡ valuesOf (now text)) ⌝ }
+    ensures { λ r. ⌜ answer r (now (store .exit)) ≡ fitted (now (text .entry)) (now (inputs .entry)) (now (store .entry)) ⌝ }
+{
+    let needed = needed_of(vs);
+    if store.len() < needed {
+        return Refusal {
+            number: 9,
+            a: needed,
+            b: 0,
+        };
+    }
+    let slots = input_slots(vs);
+    if inputs.len() != slots {
+        return Refusal {
+            number: 10,
+            a: slots,
+            b: 0,
+        };
+    }
+    let s = first_foreign(vs, inputs);
+    if s < slots {
+        return Refusal {
+            number: 11,
+            a: s,
+            b: 0,
+        };
+    }
+    run_program(text, p, vs, needed, inputs, store)
+}
+
+// Refusals 0 to 12.
+fn run_text(text: &[u8], inputs: &[u64], store: &mut [u64]) -> Refusal
+    ensures { λ r. ⌜ answer r (now (store .exit)) ≡ evaluated (now (text .entry)) (now (inputs .entry)) (now (store .entry)) ⌝ }
+{
+    let r = check(text);
+    if r.number != 0 {
+        return r;
+    }
+    let p = program_of(text);
+    let vs = values_in(text, p);
+    run_fitted(text, p, vs, inputs, store)
+}
+
+// The bench: the refusal of a text on its inputs, A and B. The store afterwards follows from the text, the inputs and what it held; and the answer owes
+// nothing to the order of work.
+pub fn evaluate(text: &[u8], inputs: &[u64], store: &mut [u64]) -> Refusal
+    ensures { λ r. ⌜ answer r (now (store .exit)) ≡ evaluated (now (text .entry)) (now (inputs .entry)) (now (store .entry)) ⌝ }
+    ensures { λ r. ⌜ OrderFreeAnswer (now (text .entry)) (now (inputs .entry)) (answer r (now (store .exit))) ⌝ }
+{
+    run_text(text, inputs, store)
+}

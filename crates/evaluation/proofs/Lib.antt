@@ -1,0 +1,5 @@
+pub mod FillLaw
+pub mod FittedLaw
+pub mod OrderLaw
+pub mod RunLaw
+pub mod StateLaw
