@@ -1,10 +1,10 @@
--- `check_main::further_bytes` meets its contract. The loop's invariant: at most 65,536 bytes for each turn so far; the measure is the turns that are left.
+-- `streams::further_bytes` meets its contract. The loop's invariant: at most 65,536 bytes for each turn so far; the measure is the turns that are left.
 -- Assumes nothing.
 use Prim.Native.Nat.{_+_, _*_, _≤_}
 use native.Mathlib.Omega.{arith}
 use borrow.Author.Needs.{needs}
-use Rattle.check_main.proofs.further_bytes.Statement.{statement}
-use Rattle.check_main.proofs.further_bytes.Tie as tie
+use Rattle.streams.proofs.further_bytes.Statement.{statement}
+use Rattle.streams.proofs.further_bytes.Tie as tie
 
 abbrev Inv-loop : tie.InvT-loop
 Inv-loop total₀ turns₀ total turns = total + 65536 * turns ≤ 4294967296
