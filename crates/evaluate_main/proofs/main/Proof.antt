@@ -1,7 +1,7 @@
 -- `evaluate_main::main` is safe and ends.
 -- Assumes nothing.
 use borrow.Author.Needs.{needs}
-use Rattle.evaluate_main.proofs.ResultLaw.{zero-accepted}
+use Rattle.result_lines.proofs.ResultLaw.{zero-accepted}
 use Rattle.evaluate_main.proofs.main.Statement.{statement}
 use Rattle.evaluate_main.proofs.main.Tie as tie
 

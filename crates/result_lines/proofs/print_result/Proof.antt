@@ -1,4 +1,4 @@
--- `evaluate_main::print_result` meets its contract.
+-- `result_lines::print_result` meets its contract.
 -- Assumes nothing.
 use Prim.Native.Nat.{_<_}
 use mathlib.Core.Path.{sym}
@@ -9,8 +9,8 @@ use borrow.Author.Needs.{needs}
 use Rattle.offsets.proofs.OffsetsLaw.{offset-read, within}
 use Rattle.results.specs.Results.{lineOf}
 use Rattle.results.proofs.ResultsLaw.{front-bytes}
-use Rattle.evaluate_main.proofs.print_result.Statement.{statement}
-use Rattle.evaluate_main.proofs.print_result.Tie as tie
+use Rattle.result_lines.proofs.print_result.Statement.{statement}
+use Rattle.result_lines.proofs.print_result.Tie as tie
 
 -- the value's number is below 264
 few : (s : tie.Start) → s .args .i < 264

@@ -1,4 +1,4 @@
--- `evaluate_main::print_results` meets its contract. The loop's invariant: the bytes lent keep their length; the measure is the results that are left.
+-- `result_lines::print_results` meets its contract. The loop's invariant: the bytes lent keep their length; the measure is the results that are left.
 -- Assumes nothing.
 use Prim.Native.Nat.{ℕ, _-_, _≤_}
 use mathlib.Core.Path.{_≡_, sym, ap, _∙_}
@@ -9,9 +9,9 @@ use Rattle.program.specs.Parts.{opAt}
 use Rattle.values.proofs.ValuesLaw.{ops-small, count-few}
 use Rattle.operands.specs.Operands.{arityOf}
 use Rattle.operands.proofs.OperandsLaw.{arity-few}
-use Rattle.evaluate_main.proofs.ResultLaw.{read, few-slots, result-before}
-use Rattle.evaluate_main.proofs.print_results.Statement.{statement}
-use Rattle.evaluate_main.proofs.print_results.Tie as tie
+use Rattle.result_lines.proofs.ResultLaw.{read, few-slots, result-before}
+use Rattle.result_lines.proofs.print_results.Statement.{statement}
+use Rattle.result_lines.proofs.print_results.Tie as tie
 
 abbrev Inv-loop : tie.InvT-loop
 Inv-loop text vs store out₀ op n starts j₀ j-end out j = (j ≤ j-end) × (length out ≡ 200001)
@@ -38,10 +38,13 @@ print-result-requires c κs =
     let o = l .before .before .before in
     let s = o .before .before .before .before .before .before in
     let h = s .pre .0 in
-    let op = o .op-at .ensures ∙ ap (λ (k : ℕ). opAt (s .args .text .now) (getD (s .args .p .ops) k 0)) (o .before .ops-of .ensures) in
-    (rw (c .before .result-number .ensures) (result-before _ _ _ (h .1) (h .2) (h .0) _ op (l .loop .j) (rw (← l .before .arity-of .ensures) (c .before .before .loop-test .taken))),
-    read _ _ _ (h .1) (h .2), l .before .before .offsets-of .ensures,
-    omega (arith, few-slots _ _ _ (h .1) (h .2) (h .0), s .pre .1 .0), omega (arith, l .loop .inv .1))
+    let op = o .op-at .ensures ∙ ap (λ (k : ℕ). opAt (s .args .text .now) (getD (s .args .p .ops) k 0)) (o .before .ops-of .ensures) in (
+      rw (c .before .result-number .ensures) (result-before _ _ _ (h .1) (h .2) (h .0) _ op (l .loop .j) (rw (← l .before .arity-of .ensures) (c .before .before .loop-test .taken))),
+      read _ _ _ (h .1) (h .2),
+      l .before .before .offsets-of .ensures,
+      omega (arith, few-slots _ _ _ (h .1) (h .2) (h .0), s .pre .1 .0),
+      omega (arith, l .loop .inv .1),
+    )
 
 same-length : tie.Need-same-length Inv-loop μ-loop
 same-length c = c .before .loop .inv .1 ∙ sym (c .before .before .before .before .before .before .before .before .before .before .pre .1 .1)
