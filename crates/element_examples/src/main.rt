@@ -1,7 +1,6 @@
 // Runs the proved ops that work element by element on the examples of 01 and of 000, as examples/element_ops.mlir has them, and writes their
 // results; those on two operands are in binary_examples. A constant is its literal: reading it is the crate dense's work.
 mod choices;
-mod quotients;
 mod unaries;
 
 fn run_unaries() {
@@ -21,8 +20,8 @@ fn run_choices() {
 }
 
 fn run_quotients() {
-    quotients::divide_examples();
-    quotients::remainder_examples();
+    quotient_examples::divide_examples();
+    quotient_examples::remainder_examples();
 }
 
 fn main() {

@@ -1,7 +1,6 @@
 // Runs the proved ops that work shape by shape on the examples of 01 and of 000, as examples/shape_ops.mlir has them, and writes their results.
 mod folded;
 mod moved;
-mod parts;
 
 fn run_moved() {
     moved::iota_examples();
@@ -12,10 +11,10 @@ fn run_moved() {
 }
 
 fn run_parts() {
-    parts::slice_examples();
-    parts::pad_examples();
-    parts::dynamic_slice_examples();
-    parts::concatenate_examples();
+    part_examples::slice_examples();
+    part_examples::pad_examples();
+    part_examples::dynamic_slice_examples();
+    part_examples::concatenate_examples();
 }
 
 fn run_folded() {

@@ -1,10 +1,10 @@
--- `parts::start_examples` is safe and ends.
+-- `part_examples::start_examples` is safe and ends.
 -- Assumes nothing.
 use mathlib.Core.Path.{refl}
 use borrow.Author.Needs.{needs}
 use Rattle.lists.specs.Lists.{allBelow}
-use Rattle.shape_examples.proofs.parts.start_examples.Statement.{statement}
-use Rattle.shape_examples.proofs.parts.start_examples.Tie as tie
+use Rattle.part_examples.proofs.start_examples.Statement.{statement}
+use Rattle.part_examples.proofs.start_examples.Tie as tie
 
 dynamic-slice-requires : tie.Need-dynamic-slice-requires
 unfolding allBelow

@@ -1,10 +1,10 @@
--- `parts::concatenate_examples` is safe and ends.
+-- `part_examples::concatenate_examples` is safe and ends.
 -- Assumes nothing.
 use mathlib.Core.Path.{refl}
 use borrow.Author.Needs.{needs}
 use Rattle.lists.specs.Lists.{allBelow}
-use Rattle.shape_examples.proofs.parts.concatenate_examples.Statement.{statement}
-use Rattle.shape_examples.proofs.parts.concatenate_examples.Tie as tie
+use Rattle.part_examples.proofs.concatenate_examples.Statement.{statement}
+use Rattle.part_examples.proofs.concatenate_examples.Tie as tie
 
 concatenate-requires : tie.Need-concatenate-requires
 unfolding allBelow

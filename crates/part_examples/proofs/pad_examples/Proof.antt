@@ -1,10 +1,10 @@
--- `parts::pad_examples` is safe and ends.
+-- `part_examples::pad_examples` is safe and ends.
 -- Assumes nothing.
 use mathlib.Core.Path.{refl}
 use borrow.Author.Needs.{needs}
 use Rattle.lists.specs.Lists.{allBelow}
-use Rattle.shape_examples.proofs.parts.pad_examples.Statement.{statement}
-use Rattle.shape_examples.proofs.parts.pad_examples.Tie as tie
+use Rattle.part_examples.proofs.pad_examples.Statement.{statement}
+use Rattle.part_examples.proofs.pad_examples.Tie as tie
 
 pad-requires : tie.Need-pad-requires
 unfolding allBelow

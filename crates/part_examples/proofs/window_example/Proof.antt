@@ -1,10 +1,10 @@
--- `parts::window_example` is safe and ends.
+-- `part_examples::window_example` is safe and ends.
 -- Assumes nothing.
 use mathlib.Core.Path.{refl}
 use borrow.Author.Needs.{needs}
 use Rattle.lists.specs.Lists.{allBelow}
-use Rattle.shape_examples.proofs.parts.window_example.Statement.{statement}
-use Rattle.shape_examples.proofs.parts.window_example.Tie as tie
+use Rattle.part_examples.proofs.window_example.Statement.{statement}
+use Rattle.part_examples.proofs.window_example.Tie as tie
 
 dynamic-slice-requires : tie.Need-dynamic-slice-requires
 unfolding allBelow

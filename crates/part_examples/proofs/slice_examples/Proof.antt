@@ -1,10 +1,10 @@
--- `parts::slice_examples` is safe and ends.
+-- `part_examples::slice_examples` is safe and ends.
 -- Assumes nothing.
 use mathlib.Core.Path.{refl}
 use borrow.Author.Needs.{needs}
 use Rattle.lists.specs.Lists.{allBelow}
-use Rattle.shape_examples.proofs.parts.slice_examples.Statement.{statement}
-use Rattle.shape_examples.proofs.parts.slice_examples.Tie as tie
+use Rattle.part_examples.proofs.slice_examples.Statement.{statement}
+use Rattle.part_examples.proofs.slice_examples.Tie as tie
 
 slice-requires : tie.Need-slice-requires
 unfolding allBelow
