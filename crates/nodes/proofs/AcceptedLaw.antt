@@ -29,11 +29,13 @@ use Rattle.attributes.specs.Attributes.{stands, denseFits, nameOf}
 use Rattle.outputs.specs.Outputs.{typedReturn}
 use Rattle.typing.specs.Typing.{rowOf, operationOf}
 use Rattle.facts.specs.Facts.{AcceptedAs, nodeType}
+use Rattle.reading_laws.proofs.OpsLaw.{read-program}
+use Rattle.reading_laws.proofs.ElementsLaw.{few-elements}
 use Rattle.verify.specs.Verify.{programRefusal, verdict}
 use Rattle.nodes.specs.Nodes.{kindOf, nodeAt, nodesOf, typesOf}
 use Rattle.nodes.proofs.TypedLaw.{typed-accepted, typed-constant}
 use Rattle.nodes.proofs.NodesLaw.{OpStands, defined-type, return-defined, operand-before, operand-type, result-is, granted-at, nodes-accepted}
-use Rattle.nodes.proofs.VerdictLaw.{both-zero, ops-and-return, few-elements, each-passed, op-stands, return-stands, ops-stand}
+use Rattle.nodes.proofs.VerdictLaw.{both-zero, ops-and-return, each-passed, op-stands, one-result, return-stands, ops-stand}
 
 module _ (text : List ℕ) where
   -- its parts, its values, and op k
@@ -47,28 +49,36 @@ module _ (text : List ℕ) where
   opOf k = opAt text (getD (programOf text .ops) k 0)
 
   module _ (e : verdict text .number ≡ 0) where
+    -- refusals 1 to 4: reading passes the text
+    text-passes : textRefusal text .number ≡ 0
+    unfolding verdict
+    text-passes = both-zero (textRefusal text .number) (programRefusal text p vs) (textRefusal text) refl e .0
+
+    text-counted : (0 < p .count) × (p .count ≤ 257)
+    text-counted = let r = read-program text text-passes in (r .least, r .most)
+
     program-passes : programRefusal text p vs .number ≡ 0
     unfolding verdict
     program-passes = both-zero (textRefusal text .number) (programRefusal text p vs) (textRefusal text) refl e .1
 
     -- "ops .., and `"func.return"` last": all of them are read
     pub accepted-count : opsOf p + 1 ≡ p .count
-    accepted-count = ops-and-return text p vs program-passes
+    accepted-count = ops-and-return text p vs text-counted program-passes
 
     -- size 3: the slots needed
     pub accepted-elements : neededOf vs ≤ 8192
-    accepted-elements = few-elements text p vs program-passes
+    accepted-elements = few-elements text text-passes (one-result text p vs text-counted program-passes)
 
     -- refusals 5 and 6, of every op and of the return
     pub accepted-names : (k : ℕ) → k < p .count → namesFault text (vs .list) (vs .inputs + k) (getD (p .ops) k 0) .refusal ≡ 0
-    accepted-names k l = each-passed text p vs program-passes k l .names
+    accepted-names k l = each-passed text p vs text-counted program-passes k l .names
 
     -- refusals 7 and 8
     pub accepted-stands : (k : ℕ) → k < opsOf p → OpStands text (opOf k) (vs .list) (vs .inputs + k)
-    accepted-stands = op-stands text p vs program-passes
+    accepted-stands = op-stands text p vs text-counted program-passes
 
     pub accepted-return : typedReturn text (opOf (opsOf p)) (p .header) (vs .list) (vs .inputs + opsOf p) ≡ true
-    accepted-return = return-stands text p vs program-passes
+    accepted-return = return-stands text p vs text-counted program-passes
 
     pub op-accepted : (k : ℕ) → k < opsOf p → AcceptedAs (kindOf text (opOf k)) (operationOf text (opOf k) (rowOf text (opOf k)))
     op-accepted k l = let h = accepted-stands k l in typed-accepted text (opOf k) (vs .list) (vs .inputs + k) (h .typed) (h .held)
@@ -78,7 +88,7 @@ module _ (text : List ℕ) where
         → (valueNamed text (vs .list) (vs .inputs + k) (placeOf (opOf k) operandName j) < vs .inputs + k)
         × (nodeType (typeAt (operationOf text (opOf k) (rowOf text (opOf k)) .types) j)
         ≡ nodeType (getD (vs .list) (valueNamed text (vs .list) (vs .inputs + k) (placeOf (opOf k) operandName j)) noValue .ty))
-    operands-defined k l j m = (operand-before text p (ops-stand text p vs program-passes) k l j m, operand-type text p (ops-stand text p vs program-passes) k l j m)
+    operands-defined k l j m = (operand-before text p (ops-stand text p vs text-counted program-passes) k l j m, operand-type text p (ops-stand text p vs text-counted program-passes) k l j m)
 
     -- so what the return names
     pub returns-defined : (j : ℕ) → j < arityOf (opOf (opsOf p))
@@ -86,7 +96,7 @@ module _ (text : List ℕ) where
         × (nodeType (typeOfPart text (opOf (opsOf p)) operandType j)
         ≡ nodeType (getD (vs .list) (valueNamed text (vs .list) (vs .inputs + opsOf p) (placeOf (opOf (opsOf p)) operandName j)) noValue .ty))
     returns-defined j m =
-        let d = return-defined text p (ops-stand text p vs program-passes) j m in
+        let d = return-defined text p (ops-stand text p vs text-counted program-passes) j m in
         (d .before, defined-type text p (opOf (opsOf p)) (vs .inputs + opsOf p) j d)
 
     -- op k as evaluating takes it: its result is value inputs + k, and it has what its class asks
@@ -94,7 +104,7 @@ module _ (text : List ℕ) where
     node-result = result-is text p
 
     pub node-accepted : (k : ℕ) → k < opsOf p → Granted (nodeAt text p vs k) (nodeAt text p vs k .kind)
-    node-accepted = granted-at text p (ops-stand text p vs program-passes)
+    node-accepted = granted-at text p (ops-stand text p vs text-counted program-passes)
 
     -- a constant has its dense value, which is one of its type
     pub constant-accepted : (k : ℕ) → k < opsOf p → kindOf text (opOf k) ≡ Constant
@@ -103,7 +113,7 @@ module _ (text : List ℕ) where
 
     pub accepted-program : Accepted (typesOf text) (nodesOf text)
     unfolding typesOf nodesOf
-    accepted-program = nodes-accepted text p (ops-stand text p vs program-passes)
+    accepted-program = nodes-accepted text p (ops-stand text p vs text-counted program-passes)
 
     -- demand 3 of 01 for the text's program
     pub text-order-free : StartsAtIdentity (nodesOf text) → (inputs : List Tensor) → HoldAll (typesOf text) inputs → (b : ℕ) → OrderFree hlo (nodesOf text) inputs b

@@ -46,9 +46,8 @@ use Rattle.bodies.specs.Bodies.{argumentType, asFirst, bodyCounted, bodyFits, b
 use Rattle.operands.specs.Operands.{arityOf, operandTyped, operandsTyped, valueNamed}
 use Rattle.outputs.specs.Outputs.{returnJudged, returnedAt, returnsHeader, typedReturn}
 use Rattle.typing.specs.Typing.{bodiesFit, bodyType, inTable, opJudged, operationOf, resultsAre, rowOf, typedOp, typesOf as writtenTypes}
-use Rattle.offsets.specs.Offsets.{sizeAt, offsetAt, neededOf}
 use Rattle.opwise.specs.Opwise.{byName, byOp, opRefusal, opsFrom, typingOf}
-use Rattle.verify.specs.Verify.{counted, withinSizes, opsRefusal, programRefusal, verdict}
+use Rattle.verify.specs.Verify.{programRefusal, verdict}
 use Rattle.nodes.specs.Nodes.{directionAt, elementsOf, inputTypes, kindOf, nodeAt, nodesIn, nodesOf, operandsOf, reducerAt, typesOf}
 
 unfoldable sample : List ℕ
@@ -62,5 +61,5 @@ sample-program :
     × (map (λ o. o .values) (nodesOf sample .ops) ≡ (0 ∷ []) ∷ [] ∷ [])
     × (map (λ o. o .first) (nodesOf sample .ops) ≡ [] ∷ (0 ∷ []) ∷ [])
     × (nodesOf sample .returns ≡ 2 ∷ [])
-unfolding sample firstWhere inComment inRun isDigit isLetter isSigil isSign isSpace runEnd runFrom skipEnd skipFrom startsWith colonEnd floatEnd fractionEnd integerEnd moreEnd parameterEnd parametersEnd quantizedEnd scientificEnd signEnd storageEnd elementEnd typeClose byteEnd complexEnd digitsEnd shapeEnd shapeFrom sizeNext wordEnd lexeme markToken nameEnd nameToken plainWord quoteToken signToken tensorToken tokenAt wordToken nameBytes sameBytes sameName wordIs digitsFrom inType magnitudeOf numberIn numberOf allFit countOfByte dimensionsFrom elementNamed foreign typeSizePassed typeAfter typeOf typed widthNamed grammar cell step leafKinds matches kindOfToken markKind nameKind quotedKind tokenKind wordKind readings readingsFrom readingsOf findAttribute findChoice findChoiceKind findOp placeIn same slotIn attributeKind attributeNames attributes choiceKind choiceKindNames choiceKinds choiceNames choices opNames ops rowAt operandTaken resultTaken takes earliest refusalAt textRefusal unknown among firstPassed largeNumber longList longName manyElements manyItems manyOps passes sizePassed typePassed afterToken counts depthAfterRole elementsAt itemNumber itemsAfter opsAfter addedTo bodyAt depthAfterPart noParts noted opAt partOf partsAt partsFrom partsOf beginsOp begun inHeader namesOp namingAfter noProgram outlined programFrom programOf choiceAt choiceForm closeFrom denseAttribute endsLiteral formAt goesOn noNumbers numberAt numbersAt numbersFrom patternAt tokenAfter withNumber wordForm andThen before booleanOf denseAt denseValue itemsAt literalOf markAt oneAt sameElements everywhere firstFailing dimTest isFirst isIn keptBelow keptIs allTypes sameButOne sameElement sameShape sameType sumOfDims typeTest below ceilingIs inOrder nonNegative paddedIs positive absConstraints broadcastConstraints clampConstraints compareConstraints compareTypeIs concatenateConstraints constantConstraints convertConstraints dynamicSliceConstraints iotaConstraints padConstraints reduceConstraints reshapeConstraints reverseConstraints sameTypesConstraints selectConstraints sliceConstraints transposeConstraints brokenBy constraintsBy takenAt takenByTables begins define defines ends forget inputsFrom look nameAt namesFrom namesOf placed sameNameAt settle turned visible countOf placeOf typeIn typeOfPart inputValue inputsOf opsOf resultValue valueAt valuesIn faultOf inputsFault knownNames namesFault attributeFits attributeOf attributesFit attributesOf choiceFits choiceOf denseFits denseType kindFits nameOf neededAt numbersBy numbersOf stands standsAt argumentType asFirst bodyCounted bodyFits bodyRow formed hasCount innerOp isReducer onBoth oneType opCounted operandIs returnsIt rowNamed arityOf bodiesFit bodyType inTable opJudged operandTyped operandsTyped operationOf resultsAre returnJudged returnedAt returnsHeader rowOf typedOp typedReturn writtenTypes valueNamed byName byOp counted withinSizes neededOf offsetAt sizeAt opRefusal opsFrom opsRefusal programRefusal typingOf verdict directionAt elementsOf inputTypes kindOf nodeAt nodesIn nodesOf operandsOf reducerAt typesOf
+unfolding sample firstWhere inComment inRun isDigit isLetter isSigil isSign isSpace runEnd runFrom skipEnd skipFrom startsWith colonEnd floatEnd fractionEnd integerEnd moreEnd parameterEnd parametersEnd quantizedEnd scientificEnd signEnd storageEnd elementEnd typeClose byteEnd complexEnd digitsEnd shapeEnd shapeFrom sizeNext wordEnd lexeme markToken nameEnd nameToken plainWord quoteToken signToken tensorToken tokenAt wordToken nameBytes sameBytes sameName wordIs digitsFrom inType magnitudeOf numberIn numberOf allFit countOfByte dimensionsFrom elementNamed foreign typeSizePassed typeAfter typeOf typed widthNamed grammar cell step leafKinds matches kindOfToken markKind nameKind quotedKind tokenKind wordKind readings readingsFrom readingsOf findAttribute findChoice findChoiceKind findOp placeIn same slotIn attributeKind attributeNames attributes choiceKind choiceKindNames choiceKinds choiceNames choices opNames ops rowAt operandTaken resultTaken takes earliest refusalAt textRefusal unknown among firstPassed largeNumber longList longName manyElements manyItems manyOps passes sizePassed typePassed afterToken counts depthAfterRole elementsAt itemNumber itemsAfter opsAfter addedTo bodyAt depthAfterPart noParts noted opAt partOf partsAt partsFrom partsOf beginsOp begun inHeader namesOp namingAfter noProgram outlined programFrom programOf choiceAt choiceForm closeFrom denseAttribute endsLiteral formAt goesOn noNumbers numberAt numbersAt numbersFrom patternAt tokenAfter withNumber wordForm andThen before booleanOf denseAt denseValue itemsAt literalOf markAt oneAt sameElements everywhere firstFailing dimTest isFirst isIn keptBelow keptIs allTypes sameButOne sameElement sameShape sameType sumOfDims typeTest below ceilingIs inOrder nonNegative paddedIs positive absConstraints broadcastConstraints clampConstraints compareConstraints compareTypeIs concatenateConstraints constantConstraints convertConstraints dynamicSliceConstraints iotaConstraints padConstraints reduceConstraints reshapeConstraints reverseConstraints sameTypesConstraints selectConstraints sliceConstraints transposeConstraints brokenBy constraintsBy takenAt takenByTables begins define defines ends forget inputsFrom look nameAt namesFrom namesOf placed sameNameAt settle turned visible countOf placeOf typeIn typeOfPart inputValue inputsOf opsOf resultValue valueAt valuesIn faultOf inputsFault knownNames namesFault attributeFits attributeOf attributesFit attributesOf choiceFits choiceOf denseFits denseType kindFits nameOf neededAt numbersBy numbersOf stands standsAt argumentType asFirst bodyCounted bodyFits bodyRow formed hasCount innerOp isReducer onBoth oneType opCounted operandIs returnsIt rowNamed arityOf bodiesFit bodyType inTable opJudged operandTyped operandsTyped operationOf resultsAre returnJudged returnedAt returnsHeader rowOf typedOp typedReturn writtenTypes valueNamed byName byOp opRefusal opsFrom programRefusal typingOf verdict directionAt elementsOf inputTypes kindOf nodeAt nodesIn nodesOf operandsOf reducerAt typesOf
 sample-program = (refl, refl, refl, refl, refl, refl, refl)

@@ -51,6 +51,7 @@ same-node-type x y p q e =
 pub record TypedParts (text : List ℕ) (op : Parts) (row : Row) (values : List Value) (n : ℕ) : Type 0 where
   pub table : inTable text op ≡ true
   pub operands : operandsTyped text op values n ≡ true
+  pub results : resultsAre 1 op ≡ true
   pub attributes : attributesFit text op row ≡ true
   pub taken : takenByTables row (operationOf text op row) ≡ true
 
@@ -65,7 +66,7 @@ typed-parts text op row values n e =
     let f = both-true (a && b && resultsAre 1 op) (attributesFit text op row) (g .0) in
     let d = both-true (a && b) (resultsAre 1 op) (f .0) in
     let c = both-true a b (d .0) in
-    record { table = c .0; operands = c .1; attributes = f .1; taken = g .1 }
+    record { table = c .0; operands = c .1; results = d .1; attributes = f .1; taken = g .1 }
 
 -- ---- operands
 

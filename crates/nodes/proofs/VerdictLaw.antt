@@ -6,17 +6,16 @@ use mathlib.Core.List.{List}
 use Prim.Native.Nat.{ℕ, zero, suc, _+_, _<_, _≤_}
 use native.Mathlib.Nat.{not-suc-le-zero, le-of-suc-le-suc}
 use native.Mathlib.Omega.{arith}
-use lib.Dec.{ltb, eqb}
+use lib.Dec.{eqb}
 use lib.ListN.{getD}
-use borrow.Author.Tests.{ltb-true, eqb-true, eqb-false, eq-eqb, ne-eqb}
+use borrow.Author.Tests.{eqb-true, eqb-false, eq-eqb, ne-eqb}
 use Rattle.lists.specs.Lists.{pick}
 use Rattle.judge.specs.declared.Refusal.{Refusal}
-use Rattle.judge.specs.Judge.{refuse}
 use Rattle.opcheck.specs.Judged.{brokenBy}
 use Rattle.program.specs.declared.Parts.{Parts}
 use Rattle.program.specs.declared.Program.{Program}
 use Rattle.program.specs.Parts.{opAt}
-use Rattle.places.specs.Places.{attributeName, bodyOpen, countOf}
+use Rattle.places.specs.Places.{resultName, resultType, attributeName, bodyOpen, countOf}
 use Rattle.values.specs.declared.Value.{Value}
 use Rattle.values.specs.declared.Values.{Values}
 use Rattle.values.specs.Values.{opsOf}
@@ -26,10 +25,9 @@ use Rattle.operands.specs.Operands.{operandsTyped}
 use Rattle.outputs.specs.Outputs.{returnsHeader, typedReturn, returnJudged}
 use Rattle.typing.specs.Typing.{rowOf, operationOf, resultsAre, typedOp, opJudged}
 use Rattle.opwise.specs.Opwise.{byName, byOp, typingOf, opRefusal, opsFrom}
-use Rattle.verify.specs.Verify.{withinSizes, opsRefusal, programRefusal}
-use Rattle.offsets.specs.Offsets.{neededOf}
-use Rattle.verify.proofs.VerifyLaw.{sizes-within}
+use Rattle.verify.specs.Verify.{programRefusal}
 use Rattle.lists.proofs.TestLaw.{both-true}
+use Rattle.nodes.proofs.TypedLaw.{typed-parts}
 use Rattle.nodes.proofs.NodesLaw.{OpStands, OpsStand}
 
 -- one answer and, where it is 0, the next: both are 0
@@ -101,49 +99,47 @@ module _ (text : List ℕ) (p : Program) (vs : Values) where
       let h = both-zero (f .refusal) (byOp k (typingOf text p vs k)) (byName f) refl e in
       record { names = h .0; typing = h .1 }
 
-  module _ (e : programRefusal text p vs .number ≡ 0) where
-    counted-ops : (withinSizes p vs ≡ true) × (opsFrom text p vs (p .count) 0 .number ≡ 0)
-    unfolding programRefusal opsRefusal byName
-    counted-ops =
+  module _ (n : (0 < p .count) × (p .count ≤ 257)) (e : programRefusal text p vs .number ≡ 0) where
+    ops-pass : opsFrom text p vs (p .count) 0 .number ≡ 0
+    unfolding programRefusal byName
+    ops-pass =
         let f = inputsFault text (p .header) (vs .inputs) in
-        by-count (withinSizes p vs) refl (both-zero (f .refusal) (opsRefusal text p vs) (byName f) refl e .1)
-      where
-        by-count : (b : Bool) → withinSizes p vs ≡ b → pick b (opsFrom text p vs (p .count) 0) (refuse 7 (p .count) 0) .number ≡ 0
-            → (withinSizes p vs ≡ true) × (opsFrom text p vs (p .count) 0 .number ≡ 0)
-        by-count true t e = (t, e)
-        by-count false t e = absurd (omega arith)
+        both-zero (f .refusal) (opsFrom text p vs (p .count) 0) (byName f) refl e .1
 
     -- the return is the last op
     pub ops-and-return : opsOf p + 1 ≡ p .count
     unfolding opsOf
     ops-and-return =
-        let h = sizes-within p vs (counted-ops .0) in
-        let least = h .0 in
-        let most = h .1 in
+        let least = n .0 in
+        let most = n .1 in
         omega arith
-
-    -- size 3
-    pub few-elements : neededOf vs ≤ 8192
-    few-elements = sizes-within p vs (counted-ops .0) .2
 
     -- each op, and the return
     pub each-passed : (k : ℕ) → k < p .count → OpPassed k
-    each-passed k l = passed k (let z : 0 + k ≡ k = omega arith in rw z at (each-op (p .count) 0 (counted-ops .1) k l))
+    each-passed k l = passed k (let z : 0 + k ≡ k = omega arith in rw z at (each-op (p .count) 0 ops-pass k l))
 
     pub op-stands : (k : ℕ) → k < opsOf p → OpStands text (opAt text (getD (p .ops) k 0)) (vs .list) (vs .inputs + k)
     unfolding typingOf
     op-stands k l =
-        let n = ops-and-return in
+        let r = ops-and-return in
         let t = each-passed k (omega arith) .typing in
         judged-op text (opAt text (getD (p .ops) k 0)) (vs .list) (vs .inputs + k) (rw (ne-eqb (k + 1) (p .count) (λ q. omega arith)) at t)
+
+    -- "a wrong number .. of results (one ..)": one result type
+    pub one-result : (k : ℕ) → k < opsOf p → countOf (opAt text (getD (p .ops) k 0)) resultType ≡ 1
+    unfolding resultsAre
+    one-result k l =
+        let op = opAt text (getD (p .ops) k 0) in
+        let t = typed-parts text op (rowOf text op) (vs .list) (vs .inputs + k) (op-stands k l .typed) in
+        eqb-true (countOf op resultType) 1 (both-true (eqb (countOf op resultName) 1) (eqb (countOf op resultType) 1) (t .results) .1)
 
     pub return-stands : typedReturn text (opAt text (getD (p .ops) (opsOf p) 0)) (p .header) (vs .list) (vs .inputs + opsOf p) ≡ true
     unfolding typingOf
     return-stands =
-        let n = ops-and-return in
+        let r = ops-and-return in
         let k = opsOf p in
         let t = each-passed k (omega arith) .typing in
-        judged-return text (opAt text (getD (p .ops) k 0)) (p .header) (vs .list) (vs .inputs + k) (rw (eq-eqb (k + 1) (p .count) n) at t)
+        judged-return text (opAt text (getD (p .ops) k 0)) (p .header) (vs .list) (vs .inputs + k) (rw (eq-eqb (k + 1) (p .count) r) at t)
 
     pub ops-stand : OpsStand text p vs
     ops-stand =

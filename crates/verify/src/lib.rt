@@ -1,9 +1,7 @@
 // Refusals 0 to 8 of a text.
-use dimrules::both;
 use judge::Refusal;
 use judge::read_refusal;
 use known::input_names;
-use offsets::needed_of;
 use opwise::by_name;
 use opwise::first_refused;
 use program::Program;
@@ -13,49 +11,14 @@ use values::Values;
 use values::values_in;
 ghost use mathlib.Core.Path.{_≡_};
 ghost use Prim.Native.Nat.{_≤_};
-ghost use lib.ListN.{length};
+ghost use Rattle.judge.specs.Judge.{textRefusal};
 ghost use Rattle.program.specs.Program.{programOf};
 ghost use Rattle.values.specs.Values.{valuesIn};
-ghost use Rattle.offsets.specs.Offsets.{ValuesRead};
 ghost use Rattle.opwise.specs.Opwise.{Lent};
-ghost use Rattle.verify.specs.Verify.{counted, withinSizes, opsRefusal, programRefusal, verdict};
+ghost use Rattle.verify.specs.Verify.{programRefusal, verdict};
 
 // The names in scope: one free place for each token of a text, and one for each value.
 const ENTRIES: usize = 65801;
-
-fn is_counted(p: Program) -> bool
-    ensures { λ r. ⌜ r ≡ counted p ⌝ }
-{
-    both(0 < p.count, p.count < 258)
-}
-
-// Whether sizes 3 and 4 are kept.
-fn within_sizes(p: Program, vs: Values) -> bool
-    requires { ⌜ ValuesRead vs ⌝ }
-    ensures { λ r. ⌜ r ≡ withinSizes p vs ⌝ }
-{
-    both(is_counted(p), needed_of(vs) <= 8192)
-}
-
-fn ops_refusal(
-    text: &[u8],
-    p: Program,
-    vs: Values,
-    stack: &mut [u8],
-    entries: &mut [usize],
-) -> Refusal
-    requires { ⌜ (vs .inputs ≤ 8) × ValuesRead vs × Lent (now text) (now stack) (now entries) ⌝ }
-    ensures { λ r. ⌜ r ≡ opsRefusal (now (text .entry)) p vs ⌝ }
-{
-    if within_sizes(p, vs) {
-        return first_refused(text, p, vs, stack, entries);
-    }
-    Refusal {
-        number: 7,
-        a: p.count,
-        b: 0,
-    }
-}
 
 // Refusals 5 to 8 of a program with its values.
 fn program_refusal(
@@ -65,20 +28,20 @@ fn program_refusal(
     stack: &mut [u8],
     entries: &mut [usize],
 ) -> Refusal
-    requires { ⌜ (vs .inputs ≤ 8) × ValuesRead vs × Lent (now text) (now stack) (now entries) ⌝ }
+    requires { ⌜ (p .count ≤ 257) × (vs .inputs ≤ 8) × Lent (now text) (now stack) (now entries) ⌝ }
     ensures { λ r. ⌜ r ≡ programRefusal (now (text .entry)) p vs ⌝ }
 {
     let header = p.header;
     let f = input_names(text, header, vs.inputs, entries);
     if f.refusal == 0 {
-        return ops_refusal(text, p, vs, stack, entries);
+        return first_refused(text, p, vs, stack, entries);
     }
     by_name(f)
 }
 
-// Refusals 5 to 8 of a text that is not too long.
+// Refusals 5 to 8 of a text without refusals 1 to 4.
 fn checked(text: &[u8]) -> Refusal
-    requires { ⌜ length (now text) ≤ 65536 ⌝ }
+    requires { ⌜ textRefusal (now text) .number ≡ 0 ⌝ }
     ensures { λ r. ⌜ r ≡ programRefusal (now (text .entry)) (programOf (now (text .entry))) (valuesIn (now (text .entry)) (programOf (now (text .entry)))) ⌝ }
 {
     let mut stack: [u8; Stack::SIZE] = [0; Stack::SIZE];

@@ -1,12 +1,11 @@
 use borrow.Author.Tests.{eq-eqb, ne-eqb}
 use Rattle.verify.specs.Verify.{verdict}
-use Rattle.verify.proofs.VerifyLaw.{few-bytes}
 use borrow.Author.Needs.{needs}
 use Rattle.verify.proofs.check.Statement.{statement}
 use Rattle.verify.proofs.check.Tie as tie
 
 checked-requires : tie.Need-checked-requires
-checked-requires c κs = few-bytes (c .before .before .before .before .args .text .now) (rw (← c .before .before .read-refusal .ensures) (c .if1 .taken))
+checked-requires c κs = rw (← c .before .before .read-refusal .ensures) (c .if1 .taken)
 
 returns : tie.Need-returns
 unfolding verdict

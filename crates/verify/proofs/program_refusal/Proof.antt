@@ -6,7 +6,7 @@ use Rattle.verify.proofs.program_refusal.Tie as tie
 
 returns : tie.Need-returns
 unfolding programRefusal
-returns c = simp (← c .before .before .before .before .ops-refusal .ensures, eq-eqb _ _ (c .before .before .before .before .before .before .before .if1 .taken), ← c .before .before .before .before .before .before .before .before .before .before .before .input-names .ensures)
+returns c = simp (← c .before .before .before .before .first-refused .ensures, eq-eqb _ _ (c .before .before .before .before .before .before .before .if1 .taken), ← c .before .before .before .before .before .before .before .before .before .before .before .input-names .ensures)
 
 returns-2 : tie.Need-returns-2
 unfolding programRefusal
