@@ -89,7 +89,7 @@ noted-view p r place = go (ltb (partOf r) 11) refl
     go true e = within (ltb-true (partOf r) 11 e) (added p (partOf r) place)
     go false e = apart (ltb-false (partOf r) 11 e)
 
-count-same : {p q : Parts} {k place : ℕ} → Wide p → k < 11 → Added p k place q → countOf q k ≡ min (countOf p k + 1) 9
+pub count-same : {p q : Parts} {k place : ℕ} → Wide p → k < 11 → Added p k place q → countOf q k ≡ min (countOf p k + 1) 9
 unfolding countOf
 count-same {p} {k = k} w h (fits g) = getD-set-same (p .count) k (getD (p .count) k 0 + 1) 0 (rw (w .counts) h) ∙ omega arith
 count-same {p} {k = k} w h (full g) = getD-set-same (p .count) k 9 0 (rw (w .counts) h) ∙ omega arith

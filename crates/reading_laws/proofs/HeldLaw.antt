@@ -62,7 +62,7 @@ small-sizes ds = go (ltb 6 (length ds)) (allFit ds && leb (volume ds) 4096)
     go false true = omega arith
     go false false = omega arith
 
-small-passed : (text : List ℕ) (at : ℕ) → typeOf text at .passed ≤ 2
+pub small-passed : (text : List ℕ) (at : ℕ) → typeOf text at .passed ≤ 2
 unfolding typeOf typeAfter typed foreign
 small-passed text at =
     let end = shapeEnd text (at + 7) in

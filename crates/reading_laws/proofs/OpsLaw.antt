@@ -96,7 +96,7 @@ module _ (text : List ℕ) where
       pub op-place : (k : ℕ) → k < length (o .ops) → getD (programOf text .ops) k 0 ≡ getD (o .ops) k 0
       op-place k h = place k (omega arith) ∙ List·getD-append (o .ops) (o .last ∷ []) 0 k h
 
-      last-place : getD (programOf text .ops) (length (o .ops)) 0 ≡ o .last
+      pub last-place : getD (programOf text .ops) (length (o .ops)) 0 ≡ o .last
       last-place = place (length (o .ops)) (omega arith) ∙ getD-append-seam (o .ops) (o .last) [] 0
 
       by-outline : ReadProgram text

@@ -1,0 +1,9 @@
+pub mod DepthLaw
+pub mod YieldLaw
+pub mod ItemLaw
+pub mod PartLaw
+pub mod OpLaw
+pub mod CountLaw
+pub mod StandLaw
+pub mod NameLaw
+pub mod GrantedLaw
