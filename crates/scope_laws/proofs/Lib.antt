@@ -1,1 +1,4 @@
 pub mod QuietLaw
+pub mod DefinedLaw
+pub mod OperandLaw
+pub mod PlacedLaw
