@@ -4,33 +4,25 @@
 use mathlib.Core.Path.{_≡_, refl, sym, ap, subst, _∙_}
 use mathlib.Core.List.{List, [], _∷_}
 use mathlib.Core.Bool.{Bool, true, false, _&&_, _||_}
-use Prim.Native.Nat.{ℕ, zero, suc, _+_, _-_, _*_, _<_, _≤_}
+use Prim.Native.Nat.{ℕ, zero, suc, _+_, _-_, _<_, _≤_}
 use native.Mathlib.Omega.{arith}
 use native.Mathlib.Decide.{decLt}
-use native.Mathlib.Nat.{not-suc-le-zero}
 use lib.Dec.{eqb, ltb}
-use lib.ListN.{length, getD, set, replicate, length-set}
-use lib.Seq.{getD-set-other, getD-set-same}
-use borrow.Author.Tests.{eqb-true, eqb-false, ltb-true, ltb-false, le-ltb, ne-eqb, eq-eqb}
+use lib.ListN.{length, getD}
+use borrow.Author.Tests.{eqb-true, eqb-false, ltb-true, le-ltb, ne-eqb, eq-eqb}
 use Rattle.lists.specs.Lists.{pick, tab, All, firstWhere}
 use Rattle.lists.proofs.TabLaw.{length-tab, getD-tab}
 use Rattle.lists.proofs.SearchLaw.{first-le, none-passes}
 use Rattle.lists.proofs.TestLaw.{both-true}
 use Rattle.scan.specs.Bytes.{among}
-use Rattle.text.specs.declared.Token.{Token}
-use Rattle.grammar.specs.Symbols.{InputName, ArgumentName, ResultName, OperandName, BodyOpen, BodyClose, Op}
-use Rattle.syntax.specs.Readings.{Reading, readingsOf}
-use Rattle.program.specs.declared.Parts.{Parts}
-use Rattle.program.specs.Parts.{partOf, noParts, addedTo, noted, depthAfter, partsFrom}
-use Rattle.scope.specs.Scope.{Scope, scope, fault, andThen, body, waiting, waitingName, sameAt, defines, visible, define, look, settle, forget, begins, ends, placed, turned, namesFrom}
+use Rattle.grammar.specs.Symbols.{InputName, ArgumentName, ResultName, OperandName, BodyOpen, BodyClose}
+use Rattle.program.specs.Parts.{depthAfter}
+use Rattle.scope.specs.Scope.{Scope, scope, fault, andThen, body, waiting, waitingName, sameAt, defines, visible, define, look, settle, forget, begins, ends, placed, turned}
 use Rattle.values.specs.declared.Value.{Value}
 use Rattle.values.specs.Values.{noValue}
 use Rattle.known.specs.Known.{knownNames}
 use Rattle.operands.specs.Operands.{valueNamed}
-use Rattle.scope_laws.proofs.QuietLaw.{loud, Quiet, depth-other}
-
-pub clash : {A : Type 0} (b : Bool) → b ≡ false → b ≡ true → A
-clash b e f = let z : _≡_ {A = ℕ} 0 1 = cc in absurd (omega arith)
+use Rattle.scope_laws.proofs.QuietLaw.{clash, loud, depth-other}
 
 -- one scope after the other, without a fault
 pub record Between (s : Scope) (f : List ℕ → Scope) (out : List ℕ) : Type 0 where
@@ -42,7 +34,7 @@ pub between : (s : Scope) (f : List ℕ → Scope) (out : List ℕ) → andThen 
 between (scope es) f out e = record { mid = es; first = refl; then = e }
 between (fault m a) f out e = let z : _≡_ {A = ℕ} 0 1 = cc in absurd (omega arith)
 
-added : (text : List ℕ) (a : ℕ) (es out : List ℕ) → define text a es ≡ scope out → out ≡ a ∷ es
+pub added : (text : List ℕ) (a : ℕ) (es out : List ℕ) → define text a es ≡ scope out → out ≡ a ∷ es
 unfolding define
 added text a es out e = go (visible text a es) e
   where
@@ -129,6 +121,7 @@ module _ (text : List ℕ) (values : List Value) (n : ℕ) where
     where
       has : ℕ → Bool
       has i = sameAt text (getD values i noValue .name) a
+
       by : Dec (firstWhere has (tab n (λ i. i)) < n) → firstWhere has (tab n (λ i. i)) < n
       by (yes g) = g
       by (no g) =
@@ -186,13 +179,16 @@ module _ (text : List ℕ) (values : List Value) (n : ℕ) where
       where
         same : depthAfter depth role ≡ depth
         same = depth-other depth role p q
+
         keep : (es : List ℕ) → Low es → Outside depth es → (depth ≡ 0 → role ≡ OperandName → Defined a) → Kept depth role a es
         keep es l o s = record { low = l; outside = subst (λ (m : ℕ). Outside m es) (sym same) o; seen = s }
+
         named : (d : ℕ) → depth ≡ d → among (InputName ∷ ArgumentName ∷ []) role ≡ true → Outside depth (a ∷ es)
         named zero w t = clash (among (InputName ∷ ArgumentName ∷ []) role) (f w) t
         named (suc d) w t =
             subst (λ (m : ℕ). Outside m (a ∷ es)) (sym w)
             (outside-same d es (a ∷ es) (forget-name a es (λ x. omega arith)) (subst (λ (m : ℕ). Outside m es) w o))
+
         go : (b : Bool) → among (InputName ∷ ArgumentName ∷ []) role ≡ b → (r : Bool) → eqb role ResultName ≡ r → (s : Bool) → eqb role OperandName ≡ s →
             pick b (define text a es) (pick r (scope (waiting a ∷ es)) (pick s (look text a es) (scope es))) ≡ scope out → Kept depth role a out
         go true w r t s v x =
@@ -229,9 +225,11 @@ module _ (text : List ℕ) (values : List Value) (n : ℕ) where
           subst (λ (x : ℕ). Kept x role a out) (sym w)
           (subst (λ (x : ℕ). Kept (suc d) x a out) (sym r)
           (closed d a es out l (subst (λ (m : ℕ). Outside m es) w o) (subst (λ (x : ℕ). placed text x a es ≡ scope out) r e)))
+
       by-mark : (b : Bool) → eqb role BodyClose ≡ b → eqb role BodyOpen ≡ false → Kept depth role a out
       by-mark true q p = by-close depth refl (eqb-true role BodyClose q)
       by-mark false q p = other depth a es out few l o role p q (λ z. f z .0) e
+
       by-open : (b : Bool) → eqb role BodyOpen ≡ b → Kept depth role a out
       by-open true p =
           let r = eqb-true role BodyOpen p in
@@ -248,6 +246,7 @@ module _ (text : List ℕ) (values : List Value) (n : ℕ) where
     where
       loose : suc d ≡ 0 → (among (InputName ∷ ArgumentName ∷ []) role ≡ false) × (eqb role BodyClose ≡ false)
       loose q = absurd (omega arith)
+
       go : (b : Bool) → pick b (andThen (settle text es) (placed text role a)) (placed text role a es) ≡ scope out → Kept (suc d) role a out
       go true x =
           let b = between (settle text es) (placed text role a) out x in

@@ -3,11 +3,11 @@
 use mathlib.Core.Path.{_≡_, refl, sym, ap, subst, _∙_}
 use mathlib.Core.List.{List, [], _∷_}
 use mathlib.Core.Bool.{Bool, true, false}
-use Prim.Native.Nat.{ℕ, zero, suc, _+_, _-_, _*_, _<_, _≤_}
+use Prim.Native.Nat.{ℕ, _+_, _*_, _<_, _≤_}
 use native.Mathlib.Omega.{arith}
 use native.Mathlib.Decide.{decLt}
 use lib.Dec.{eqb, ltb}
-use lib.ListN.{length, getD, set, replicate, length-set, length-replicate}
+use lib.ListN.{length, getD, set, length-set, length-replicate}
 use lib.Seq.{getD-set-other, getD-set-same}
 use borrow.Author.Tests.{eqb-true, eqb-false, ltb-true, ltb-false}
 use Rattle.lists.specs.Lists.{pick, All}
@@ -20,7 +20,7 @@ use Rattle.places.specs.Places.{operandName}
 use Rattle.scope.specs.Scope.{scope, turned, namesFrom}
 use Rattle.values.specs.declared.Value.{Value}
 use Rattle.scope_laws.proofs.QuietLaw.{Quiet}
-use Rattle.scope_laws.proofs.DefinedLaw.{Low, Defined, Outside, Kept, turned-kept, between}
+use Rattle.scope_laws.proofs.DefinedLaw.{Low, Defined, Outside, turned-kept, between}
 
 -- only an operand's name belongs to the part of operands
 next : (b : Bool) (x r : ℕ) → (x ≡ operandName → ⊥) → pick b x r ≡ operandName → r ≡ operandName
@@ -36,9 +36,10 @@ operand-part role e =
     last : (a b c d f g h i : Bool) → pick a 3 (pick b 4 (pick c 5 (pick d 6 (pick f 7 (pick g 8 (pick h 9 (pick i 10 11))))))) ≡ operandName → ⊥
     last a b c d f g h i e =
         let r = next h 9 (pick i 10 11) (λ q. omega arith) (next g 8 _ (λ q. omega arith) (next f 7 _ (λ q. omega arith) (next d 6 _ (λ q. omega arith)
-            (next c 5 _ (λ q. omega arith) (next b 4 _ (λ q. omega arith) (next a 3 _ (λ q. omega arith) e)))))) in
+        (next c 5 _ (λ q. omega arith) (next b 4 _ (λ q. omega arith) (next a 3 _ (λ q. omega arith) e)))))) in
         let z = next i 10 11 (λ q. omega arith) r in
         omega arith
+
     go : (b : Bool) → eqb role OperandName ≡ b → pick b 2 (pick (eqb role OperandType) 3 (pick (eqb role ResultType) 4 (pick (eqb role AttributeName) 5 (pick (eqb role BodyOpen) 6
         (pick (among (InputName ∷ ArgumentName ∷ []) role) 7 (pick (among (InputType ∷ ArgumentType ∷ []) role) 8 (pick (eqb role OutputType) 9 (pick (among (FunctionName ∷ BodyLabel ∷ []) role) 10 11))))))))
         ≡ operandName → role ≡ OperandName
@@ -90,6 +91,7 @@ module _ (text : List ℕ) (values : List Value) (n : ℕ) where
             let u : 8 * operandName + j ≡ 8 * k + m = omega arith in
             subst (λ (x : ℕ). Defined text values n (getD (set (p .at) (8 * k + m) a) x 0)) (sym u)
             (subst (λ (x : ℕ). Defined text values n x) (sym (getD-set-same (p .at) (8 * k + m) a 0 (omega arith))) (d q))
+
         by : (b : Bool) → eqb k operandName ≡ b → (j : ℕ) → j < 8 → j < getD (set (p .count) k (m + 1)) operandName 0 →
             Defined text values n (getD (set (p .at) (8 * k + m) a) (8 * operandName + j) 0)
         by true q j g i = here j (eqb-true k operandName q) g (rw (own-count (m + 1) (eqb-true k operandName q)) at i) (decLt j m)

@@ -1,6 +1,6 @@
 -- Every place that a program or an op's parts note is at most 65,536: no token starts later in a text that is read.
 -- Assumes nothing.
-use mathlib.Core.Path.{_≡_, refl, sym, ap, subst, _∙_}
+use mathlib.Core.Path.{_≡_, refl, sym, subst}
 use mathlib.Core.List.{List, [], _∷_}
 use mathlib.Core.Bool.{Bool, true, false}
 use Prim.Native.Nat.{ℕ, zero, suc, _+_, _-_, _*_, _<_, _≤_}
@@ -9,10 +9,9 @@ use native.Mathlib.Decide.{decLt}
 use native.Mathlib.Numerals.{add-one}
 use lib.Dec.{eqb, ltb}
 use lib.ListN.{length, getD, set, replicate, List·getD-eq-default}
-use borrow.Author.Tests.{eqb-true, eqb-false, ltb-true, ltb-false}
+use borrow.Author.Tests.{eqb-true, eqb-false, ltb-false}
 use Rattle.lists.specs.Lists.{pick, tab, All}
 use Rattle.lists.proofs.TabLaw.{getD-tab, length-tab}
-use Rattle.text.specs.declared.Token.{Token}
 use Rattle.text.specs.Lex.{tokenAt}
 use Rattle.text.proofs.TokenLaw.{token-within, token-ordered, token-inside, token-after}
 use Rattle.grammar.specs.Symbols.{END, Op, leafKinds, matches}
@@ -24,10 +23,9 @@ use Rattle.syntax.proofs.KindLaw.{is-end}
 use Rattle.program.specs.declared.Parts.{Parts}
 use Rattle.program.specs.declared.Program.{Program}
 use Rattle.program.specs.Parts.{partOf, noParts, addedTo, noted, depthAfter, partsFrom, partsOf, partsAt, opAt}
-use Rattle.program.specs.Program.{noProgram, begun, inHeader, beginsOp, namingAfter, outlined, programFrom, programOf}
+use Rattle.program.specs.Program.{noProgram, begun, inHeader, beginsOp, outlined, programFrom, programOf}
 use Rattle.program.proofs.FoldLaw.{parts-stop}
-use Rattle.places.specs.Places.{placeOf}
-use Rattle.values.specs.declared.Value.{Value}
+use Rattle.places.specs.Places.{inputName, placeOf}
 use Rattle.values.specs.Values.{noValue, inputValue, resultValue, inputsOf, opsOf, valueAt, valuesIn}
 
 -- the tokens of what is read start inside the text
@@ -85,6 +83,7 @@ op-cases text at P z f = go (ltb 65536 (length text)) refl
     inside : length text ≤ 65536 → Dec (length text < at) → P (partsOf Op 0 text at)
     inside h (yes g) = subst P (sym (past-parts text at g)) z
     inside h (no g) = f h (omega arith)
+
     go : (b : Bool) → ltb 65536 (length text) ≡ b → P (pick b noParts (partsOf Op 0 text at))
     go true q = z
     go false q = inside (ltb-false 65536 (length text) q) (decLt (length text) at)
@@ -168,6 +167,11 @@ few-header text = go (ltb 65536 (length text)) refl
     go true q = few-none
     go false q = few-program noProgram false 0 (readings text) (started text (ltb-false 65536 (length text) q) (length text + 1) _ 0 (omega arith)) few-none
 
+-- the names of a text's inputs
+pub places-few : (text : List ℕ) (i : ℕ) → placeOf (programOf text .header) inputName i ≤ 65536
+unfolding placeOf
+places-few text i = few-get (programOf text .header .at) _ (few-header text)
+
 -- the names of the values of a text's program
 pub names-few : (text : List ℕ) (i : ℕ) → getD (valuesIn text (programOf text) .list) i noValue .name ≤ 65536
 unfolding valuesIn valueAt inputValue resultValue placeOf
@@ -175,10 +179,12 @@ names-few text i = by (decLt i 264)
   where
     p : Program
     p = programOf text
+
     one : (b c : Bool) → pick b (pick c (inputValue text (p .header) i) (resultValue text (opAt text (getD (p .ops) (i - inputsOf p) 0)))) noValue .name ≤ 65536
     one true true = few-get (p .header .at) _ (few-header text)
     one true false = few-get (opAt text (getD (p .ops) (i - inputsOf p) 0) .at) _ (few-op text (getD (p .ops) (i - inputsOf p) 0))
     one false c = omega arith
+
     by : Dec (i < 264) → getD (valuesIn text (programOf text) .list) i noValue .name ≤ 65536
     by (yes h) = rw (getD-tab 264 (λ i. pick (ltb i (inputsOf p + opsOf p)) (valueAt text p i) noValue) i noValue h) (one (ltb i (inputsOf p + opsOf p)) (ltb i (inputsOf p)))
     by (no h) = rw (List·getD-eq-default (tab 264 (λ i. pick (ltb i (inputsOf p + opsOf p)) (valueAt text p i) noValue)) noValue {n = i} (omega (arith, length-tab 264 (λ i. pick (ltb i (inputsOf p + opsOf p)) (valueAt text p i) noValue)))) (omega arith)

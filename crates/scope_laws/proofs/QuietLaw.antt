@@ -4,7 +4,7 @@
 use mathlib.Core.Path.{_≡_, refl, sym, ap, subst, _∙_}
 use mathlib.Core.List.{List, [], _∷_, _++_, append-nil}
 use mathlib.Core.Bool.{Bool, true, false, not, _||_}
-use Prim.Native.Nat.{ℕ, zero, suc, _+_, _-_}
+use Prim.Native.Nat.{ℕ, zero, suc}
 use native.Mathlib.Omega.{arith}
 use native.Mathlib.Numerals.{add-one}
 use lib.Dec.{T, eqb, eqb→eq}
@@ -14,12 +14,12 @@ use Rattle.lists.specs.Lists.{pick}
 use Rattle.scan.specs.Bytes.{among}
 use Rattle.text.specs.Lex.{tokenAt}
 use Rattle.text.specs.declared.Token.{Token}
-use Rattle.grammar.specs.Symbols.{InputName, ResultName, OpName, FuncReturn, BodyOpen, ArgumentName, BodyOpName, BodyReturn, BodyClose, comma, equals, Program, Inputs, MoreInputs, Ops, NamedOps, Arguments, MoreArguments, BodyOps, NamedBodyOps, Op, NamedOp, matches, leafKinds}
-use Rattle.grammar.specs.Grammar.{Production, _⟶_, grammar}
+use Rattle.grammar.specs.Symbols.{InputName, ResultName, OpName, FuncReturn, BodyOpen, ArgumentName, BodyOpName, BodyReturn, BodyClose, comma, equals, Program, Inputs, MoreInputs, Ops, NamedOps, Arguments, MoreArguments, BodyOps, NamedBodyOps, Op, NamedOp}
+use Rattle.grammar.specs.Grammar.{Production, grammar}
 use Rattle.grammar.specs.Derivation.{_∈_}
-use Rattle.grammar.specs.Machine.{Cell, fails, skips, takes, cell, onCell, step}
+use Rattle.grammar.specs.Machine.{Cell, fails, skips, takes, onCell, step}
 use Rattle.grammar.proofs.TableTest.{both, both-left, both-right, both-make, implies, implied, or, or-cases, true-T}
-use Rattle.grammar.proofs.CellView.{View, none, empty, leaf, rule, view, eachRule, rule-passes}
+use Rattle.grammar.proofs.CellView.{View, none, empty, leaf, rule, view, rule-passes}
 use Rattle.grammar.proofs.Sound.{isEmpty, empty-right}
 use Rattle.syntax.specs.Kinds.{kindOf}
 use Rattle.syntax.specs.Readings.{Reading, reading, labelled, readingsFrom, readingsOf}
@@ -191,10 +191,7 @@ or-right : (a b : Bool) → T b → T (or a b)
 or-right true b t = tt
 or-right false b t = t
 
-true-eqb : (a b : ℕ) → a ≡ b → eqb a b ≡ true
-true-eqb a b e = eq-eqb a b e
-
-clash : {A : Type 0} (b : Bool) → b ≡ false → b ≡ true → A
+pub clash : {A : Type 0} (b : Bool) → b ≡ false → b ≡ true → A
 clash b e f = let z : _≡_ {A = ℕ} 0 1 = cc in absurd (omega arith)
 
 -- one token: it is not loud outside bodies, and what is then expected is fine
@@ -326,8 +323,8 @@ module _ (s l : ℕ) (tail ss : List ℕ) (p : T (plain s)) (o : eqb l BodyOpen 
       let r = both-right (after before s) (fine s 0 ss) u in
       after-cases before s (Went before 0 l (tail ++ ss)) (both-left (after before s) (fine s 0 ss) u)
       (λ q. outside-went before (quiet-goes before l (implied (quiet s) (quiet l) quiet-left q)) (or-left (quiet s) (eqb s NamedOp) q) r)
-      (λ e f. clash (eqb s ResultName) (not-result s p) (true-eqb s ResultName e))
-      (λ e f. let n = true-eqb s NamedOp e in outside-went before (goes-as before l equals l f refl (opens-goes l (implied (eqb s NamedOp) (opens l) kept-named (true-T (eqb s NamedOp) n)))) (or-right (quiet s) (eqb s NamedOp) (true-T (eqb s NamedOp) n)) r)
+      (λ e f. clash (eqb s ResultName) (not-result s p) (eq-eqb s ResultName e))
+      (λ e f. let n = eq-eqb s NamedOp e in outside-went before (goes-as before l equals l f refl (opens-goes l (implied (eqb s NamedOp) (opens l) kept-named (true-T (eqb s NamedOp) n)))) (or-right (quiet s) (eqb s NamedOp) (true-T (eqb s NamedOp) n)) r)
   rule-went before (suc d) u = inside-went before d (both-right (not (eqb s BodyOpen)) (fine s (suc d) ss) (rest-inside before d s ss (not-close s p) u))
 
 all-after : (before depth s : ℕ) (ss : List ℕ) → T (plain s) → T (fine before depth (s ∷ ss)) → (c : ℕ) → T (fine c depth ss)
