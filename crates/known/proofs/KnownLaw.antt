@@ -1,37 +1,24 @@
--- The fault of an answer, the names of values laid in an array, and the places of a header's inputs as a part of its array.
+-- The names of values laid in an array, and the places of a header's inputs as a part of its array.
 -- Assumes nothing.
 use mathlib.Core.Path.{_≡_, refl, sym, ap, _∙_}
-use mathlib.Core.Bool.{Bool, true, false}
 use mathlib.Core.List.{List, [], _∷_}
 use Prim.Native.Nat.{ℕ, zero, suc, _+_, _-_, _≤_, _<_}
 use native.Mathlib.Nat.{not-suc-le-zero, le-of-suc-le-suc}
 use native.Mathlib.Numerals.{add-one}
 use native.Mathlib.Omega.{arith}
-use lib.Dec.{eqb}
 use lib.ListN.{length, getD, set, drop, take, length-set, length-drop, drop-of-length-le}
 use lib.Seq.{getD-drop}
-use Rattle.lists.specs.Lists.{pick, tab}
+use Rattle.lists.specs.Lists.{tab}
 use Rattle.lists.proofs.TabLaw.{tab-cong}
 use Rattle.grammar.proofs.StackLaw.{drop-put}
-use Rattle.scope.specs.declared.Names.{Names}
-use Rattle.scope.specs.Scope.{Scope, scope, fault, namesOf, inputsFrom}
-use Rattle.scope.specs.Scoped.{answered, Scoped}
+use Rattle.scope.specs.declared.NameFault.{NameFault}
+use Rattle.scope.specs.Scope.{namesOf, inputsFrom, faultOf}
 use Rattle.program.specs.declared.Parts.{Parts}
 use Rattle.places.specs.Places.{placeOf}
 use Rattle.values.specs.declared.Value.{Value}
 use Rattle.values.specs.Values.{noValue}
 use Rattle.values.proofs.ValuesLaw.{any-default}
-use Rattle.known.specs.declared.Fault.{Fault}
-use Rattle.known.specs.Known.{knownNames, faultOf, namesFault, inputsFault}
-
--- the fault does not depend on the entries
-pub said : {s : Scope} {k : ℕ} {before : List ℕ} {top : ℕ} {r : Names} {after : List ℕ} → Scoped s k before top r after → faultOf (answered r []) ≡ faultOf s
-unfolding answered faultOf
-said {r} {after} g = go (eqb (r .refusal) 0) ∙ ap faultOf (g .answer)
-  where
-    go : (b : Bool) → faultOf (pick b (scope (drop (r .top) [])) (fault (r .refusal) (r .a))) ≡ faultOf (pick b (scope (drop (r .top) after)) (fault (r .refusal) (r .a)))
-    go true = refl
-    go false = refl
+use Rattle.known.specs.Known.{knownNames, namesFault, inputsFault}
 
 -- the loop that lays the names: those of the first k values stand from top on
 pub record Laying (values : List Value) (first : ℕ) (k top : ℕ) (entries : List ℕ) : Type 0 where
@@ -68,16 +55,15 @@ take-tab (x ∷ l) (suc n) h = ap {B = List ℕ} (λ t. x ∷ t) (take-tab l n (
 pub part-tab : (l : List ℕ) (a n : ℕ) → a + n ≤ length l → take n (drop a l) ≡ tab n (λ i. getD l (a + i) 0)
 part-tab l a n h = take-tab (drop a l) n (omega (arith, length-drop a l)) ∙ tab-cong n _ _ (λ i b. getD-drop a l i 0)
 
-pub names-said : (text : List ℕ) (values : List Value) (n at size : ℕ) {mid after : List ℕ} {k : ℕ} {r : Names} {f : Fault} → size ≡ 65801 → drop (size - n) mid ≡ knownNames values n →
-    Scoped (namesOf text at (drop (65801 - n) mid)) k mid (65801 - n) r after → f ≡ faultOf (answered r []) → f ≡ namesFault text values n at
+pub names-said : (text : List ℕ) (values : List Value) (n at size : ℕ) (mid : List ℕ) {f : NameFault} → size ≡ 65801 → drop (size - n) mid ≡ knownNames values n →
+    f ≡ faultOf (namesOf text at (drop (65801 - n) mid)) → f ≡ namesFault text values n at
 unfolding namesFault
-names-said text values n at size {mid} e l g h = h ∙ said g ∙ ap (λ es. faultOf (namesOf text at es)) (ap (λ m. drop (m - n) mid) (sym e) ∙ l)
+names-said text values n at size mid e l h = h ∙ ap (λ es. faultOf (namesOf text at es)) (ap (λ m. drop (m - n) mid) (sym e) ∙ l)
 
-pub inputs-said : (text : List ℕ) (header : Parts) (n : ℕ) {es after : List ℕ} {r : Names} {f : Fault} → n ≤ 8 → length (header .at) ≡ 88 → length es ≡ 65801 → {k : ℕ} →
-    Scoped (inputsFrom text (drop 65801 es) (take (56 + n - 56) (drop 56 (header .at)))) k es 65801 r after → f ≡ faultOf (answered r []) → f ≡ inputsFault text header n
+pub inputs-said : (text : List ℕ) (header : Parts) (n : ℕ) {f : NameFault} → n ≤ 8 → length (header .at) ≡ 88 →
+    f ≡ faultOf (inputsFrom text [] (take (56 + n - 56) (drop 56 (header .at)))) → f ≡ inputsFault text header n
 unfolding inputsFault placeOf
-inputs-said text header n {es} b l e g h =
+inputs-said text header n b l h =
     let m : 56 + n - 56 ≡ n = omega arith in
-    let d : drop 65801 es ≡ [] = drop-of-length-le es {i = 65801} (omega arith) in
     let p = part-tab (header .at) 56 n (omega arith) in
-    h ∙ said g ∙ rw (d, m, p)
+    h ∙ rw (m, p)

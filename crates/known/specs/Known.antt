@@ -8,23 +8,18 @@ use Rattle.program.specs.declared.Parts.{Parts}
 use Rattle.places.specs.Places.{inputName, placeOf}
 use Rattle.values.specs.declared.Value.{Value}
 use Rattle.values.specs.Values.{noValue}
-use Rattle.scope.specs.Scope.{Scope, scope, fault, namesOf, inputsFrom}
-use Rattle.known.specs.declared.Fault.{Fault}
+use Rattle.scope.specs.declared.NameFault.{NameFault}
+use Rattle.scope.specs.Scope.{namesOf, inputsFrom, faultOf}
 
 -- the names of the first n values as entries of a scope, the last one first
 unfoldable pub knownNames : List Value → ℕ → List ℕ
 knownNames values zero = []
 knownNames values (suc n) = getD values n noValue .name ∷ knownNames values n
 
--- refusal 5 or 6 and the byte of its name; 0: none
-unfoldable pub faultOf : Scope → Fault
-faultOf (scope es) = record { refusal = 0; a = 0 }
-faultOf (fault n a) = record { refusal = n; a = a }
-
 -- the names of the op whose first token is at or after a byte, n values being defined before it
-unfoldable pub namesFault : List ℕ → List Value → ℕ → ℕ → Fault
+unfoldable pub namesFault : List ℕ → List Value → ℕ → ℕ → NameFault
 namesFault text values n at = faultOf (namesOf text at (knownNames values n))
 
 -- "duplicate input names": of n inputs
-unfoldable pub inputsFault : List ℕ → Parts → ℕ → Fault
+unfoldable pub inputsFault : List ℕ → Parts → ℕ → NameFault
 inputsFault text header n = faultOf (inputsFrom text [] (tab n (λ i. placeOf header inputName i)))

@@ -1,34 +1,14 @@
 // The names of one op against the values before it, and of the inputs: refusals 5 and 6.
 use places::Part;
 use program::Parts;
-use scope::Names;
+use scope::NameFault;
 use scope::inputs_in;
 use scope::names_in;
 use values::Values;
 ghost use mathlib.Core.Path.{_≡_};
-ghost use mathlib.Core.List.{[]};
 ghost use Prim.Native.Nat.{_-_, _≤_};
 ghost use lib.ListN.{length, drop};
-ghost use Rattle.scope.specs.Scoped.{answered};
-ghost use Rattle.known.specs.Known.{knownNames, faultOf, namesFault, inputsFault};
-
-// A refusal and the byte of its name; refusal 0: none.
-pub struct Fault {
-    pub refusal: u8,
-    pub a: usize,
-}
-
-fn fault_of(names: Names) -> Fault
-    ensures { λ r. ⌜ r ≡ faultOf (answered names []) ⌝ }
-{
-    if names.refusal == 0 {
-        return Fault { refusal: 0, a: 0 };
-    }
-    Fault {
-        refusal: names.refusal,
-        a: names.a,
-    }
-}
+ghost use Rattle.known.specs.Known.{knownNames, namesFault, inputsFault};
 
 // Lays the names of the first n values at the end of the array, the last one first.
 fn lay_names(values: Values, n: usize, entries: &mut [usize])
@@ -52,20 +32,20 @@ pub fn op_names(
     n: usize,
     stack: &mut [u8],
     entries: &mut [usize],
-) -> Fault
+) -> NameFault
     requires { ⌜ (length (now text) ≤ 65536) × (length (now stack) ≡ 655380) × (n ≤ 264) × (length (now entries) ≡ 65801) ⌝ }
     ensures { λ r. ⌜ r ≡ namesFault (now (text .entry)) (values .list) n at ⌝ }
 {
     lay_names(values, n, entries);
-    fault_of(names_in(text, at, stack, entries, 65801 - n))
+    names_in(text, at, stack, entries, 65801 - n)
 }
 
 // The names of the first n inputs of a header.
-pub fn input_names(text: &[u8], header: Parts, n: usize, entries: &mut [usize]) -> Fault
+pub fn input_names(text: &[u8], header: Parts, n: usize, entries: &mut [usize]) -> NameFault
     requires { ⌜ (n ≤ 8) × (length (now entries) ≡ 65801) ⌝ }
     ensures { λ r. ⌜ r ≡ inputsFault (now (text .entry)) header n ⌝ }
 {
     let places = header.at;
     let first = 8 * Part::INPUT_NAME;
-    fault_of(inputs_in(text, &places[first..first + n], entries, 65801))
+    inputs_in(text, &places[first..first + n], entries)
 }

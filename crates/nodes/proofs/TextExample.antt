@@ -37,10 +37,10 @@ use Rattle.dimrules.specs.Types.{allTypes, sameButOne, sameElement, sameShape, 
 use Rattle.dimrules.specs.Whole.{below, ceilingIs, inOrder, nonNegative, paddedIs, positive}
 use Rattle.rules.specs.Constraints.{absConstraints, broadcastConstraints, clampConstraints, compareConstraints, compareTypeIs, concatenateConstraints, constantConstraints, convertConstraints, dynamicSliceConstraints, iotaConstraints, padConstraints, reduceConstraints, reshapeConstraints, reverseConstraints, sameTypesConstraints, selectConstraints, sliceConstraints, transposeConstraints}
 use Rattle.opcheck.specs.Judged.{brokenBy, constraintsBy, takenAt, takenByTables}
-use Rattle.scope.specs.Scope.{begins, define, defines, ends, forget, inputsFrom, look, nameAt, namesFrom, namesOf, placed, sameAt as sameNameAt, settle, turned, visible}
+use Rattle.scope.specs.Scope.{begins, define, defines, ends, faultOf, forget, inputsFrom, look, nameAt, namesFrom, namesOf, placed, sameAt as sameNameAt, settle, turned, visible}
 use Rattle.places.specs.Places.{countOf, placeOf, typeIn, typeOfPart}
 use Rattle.values.specs.Values.{inputValue, inputsOf, opsOf, resultValue, valueAt, valuesIn}
-use Rattle.known.specs.Known.{faultOf, inputsFault, knownNames, namesFault}
+use Rattle.known.specs.Known.{inputsFault, knownNames, namesFault}
 use Rattle.attributes.specs.Attributes.{attributeFits, attributeOf, attributesFit, attributesOf, choiceFits, choiceOf, denseFits, denseType, kindFits, nameOf, neededAt, numbersBy, numbersOf, stands, standsAt}
 use Rattle.bodies.specs.Bodies.{argumentType, asFirst, bodyCounted, bodyFits, bodyRow, formed, hasCount, innerOp, isReducer, onBoth, oneType, opCounted, operandIs, returnsIt, rowNamed}
 use Rattle.operands.specs.Operands.{arityOf, operandTyped, operandsTyped, valueNamed}

@@ -12,14 +12,14 @@ use Rattle.judge.specs.Judge.{refuse, accepted}
 use Rattle.program.specs.declared.Program.{Program}
 use Rattle.program.specs.Parts.{opAt}
 use Rattle.values.specs.declared.Values.{Values}
-use Rattle.known.specs.declared.Fault.{Fault}
+use Rattle.scope.specs.declared.NameFault.{NameFault}
 use Rattle.known.specs.Known.{namesFault}
 use Rattle.typing.specs.declared.Judged.{Judged}
 use Rattle.outputs.specs.Outputs.{returnJudged}
 use Rattle.typing.specs.Typing.{opJudged}
 
 -- 5 or 6: A is the byte of the name
-unfoldable pub byName : Fault → Refusal
+unfoldable pub byName : NameFault → Refusal
 byName f = refuse (f .refusal) (f .a) 0
 
 -- 7 or 8: A is the op, B of 8 "its C number in 000"

@@ -1,10 +1,10 @@
 // Refusals 5 to 8 of one op, and of the first op that is refused.
 use judge::Refusal;
-use known::Fault;
 use known::op_names;
 use outputs::return_judged;
 use program::Program;
 use program::op_at;
+use scope::NameFault;
 use typing::Judged;
 use typing::op_judged;
 use values::Values;
@@ -13,7 +13,7 @@ ghost use Prim.Native.Nat.{_+_, _<_, _≤_};
 ghost use Rattle.opwise.specs.Opwise.{byName, byOp, typingOf, opRefusal, opsFrom, Lent};
 
 // Refusal 5 or 6.
-pub fn by_name(f: Fault) -> Refusal
+pub fn by_name(f: NameFault) -> Refusal
     ensures { λ r. ⌜ r ≡ byName f ⌝ }
 {
     Refusal {

@@ -24,7 +24,7 @@ use Rattle.syntax.specs.Kinds.{kindOf}
 use Rattle.syntax.specs.Readings.{Reading, reading, readingsFrom, readingsOf}
 use Rattle.syntax.proofs.ReadingLaw.{Room}
 use Rattle.scope.specs.declared.Names.{Names}
-use Rattle.scope.specs.Scope.{Scope, scope, fault, andThen, body, waitingName, defines, visible, define, settle, forget, begins, ends, placed, turned, namesFrom, inputsFrom}
+use Rattle.scope.specs.Scope.{Scope, scope, fault, faultOf, andThen, body, waitingName, defines, visible, define, settle, forget, begins, ends, placed, turned, namesFrom, inputsFrom}
 use Rattle.scope.specs.Scoped.{answered, Scoped, waitingCount}
 
 module _ (l : List ℕ) (i : ℕ) where
@@ -207,6 +207,15 @@ module _ {s : Scope} {k : ℕ} {before : List ℕ} {top : ℕ} {r : Names} {midd
 
   pub stops : r .refusal ≢ 0 → Scoped (andThen s f) k before top r middle
   stops e = record { answer = sym (refused r middle f e) ∙ ap (λ x. andThen x f) (t .answer); size = t .size; room = t .room; within = t .within }
+
+-- the fault does not depend on the entries
+pub said : {s : Scope} {k : ℕ} {before : List ℕ} {top : ℕ} {r : Names} {after : List ℕ} → Scoped s k before top r after → faultOf (answered r []) ≡ faultOf s
+unfolding answered faultOf
+said {r} {after} g = go (eqb (r .refusal) 0) ∙ ap faultOf (g .answer)
+  where
+    go : (b : Bool) → faultOf (pick b (scope (drop (r .top) [])) (fault (r .refusal) (r .a))) ≡ faultOf (pick b (scope (drop (r .top) after)) (fault (r .refusal) (r .a)))
+    go true = refl
+    go false = refl
 
 names-next : (text : List ℕ) (before : ℕ) (es : List ℕ) (f : Bool) (role : ℕ) (t : Token) (xs : List Reading) →
     namesFrom text before es (reading f role t ∷ xs) ≡ andThen (turned text before role (t .start) es) (λ rest. namesFrom text role rest xs)

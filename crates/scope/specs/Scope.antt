@@ -12,6 +12,7 @@ use Rattle.text.specs.Names.{sameName}
 use Rattle.text.specs.declared.names.Name.{Name}
 use Rattle.grammar.specs.Symbols.{InputName, ResultName, OpName, FuncReturn, OperandName, BodyOpen, ArgumentName, BodyOpName, BodyReturn, BodyClose, comma, equals, Op}
 use Rattle.syntax.specs.Readings.{Reading, readingsOf}
+use Rattle.scope.specs.declared.NameFault.{NameFault}
 
 -- An entry is a number: a defined name is its first byte, less than 131,072; then the opening of a body; above it a waiting name, a result whose op is
 -- still being read. The last entry stands first.
@@ -41,10 +42,15 @@ unfoldable pub visible : List ℕ → ℕ → List ℕ → Bool
 visible text a [] = false
 visible text a (e ∷ es) = pick (defines text e a) true (visible text a es)
 
--- the entries, or a refusal and the byte of its name
+-- the entries, or refusal 5 or 6 and the byte of its name
 pub data Scope : Type 0 where
   scope : List ℕ → Scope
   fault : ℕ → ℕ → Scope
+
+-- refusal 5 or 6 and the byte of its name; both 0 where no name is refused
+unfoldable pub faultOf : Scope → NameFault
+faultOf (scope es) = record { refusal = 0; a = 0 }
+faultOf (fault n a) = record { refusal = n; a = a }
 
 abbrev pub andThen : Scope → (List ℕ → Scope) → Scope
 andThen (scope es) f = f es

@@ -8,21 +8,39 @@ use text::names::same_name;
 use text::token_at;
 ghost use mathlib.Core.Path.{_≡_};
 ghost use Prim.Native.Nat.{_+_, _<_, _≤_};
-ghost use mathlib.Core.List.{_∷_};
+ghost use mathlib.Core.List.{[], _∷_};
 ghost use lib.ListN.{length, drop};
 ghost use Rattle.grammar.specs.Symbols.{Op};
 ghost use Rattle.syntax.specs.Readings.{readingsOf};
-ghost use Rattle.scope.specs.Scope.{scope, nameAt, sameAt, defines, visible, define, look, settle, begins, ends, placed, turned, namesFrom, namesOf, inputsFrom};
-ghost use Rattle.scope.specs.Scoped.{Scoped, Forgotten, waitingCount};
+ghost use Rattle.scope.specs.Scope.{scope, nameAt, sameAt, defines, visible, define, look, settle, begins, ends, placed, turned, namesFrom, namesOf, inputsFrom, faultOf};
+ghost use Rattle.scope.specs.Scoped.{answered, Scoped, Forgotten, waitingCount};
 
 // The opening of a body among the entries. Below it an entry is a defined name, above it a waiting one.
 const BODY: usize = 131072;
 
-// A refusal and the byte of its name; refusal 0: the entries stand in the array from top to its end, the last one first.
-pub struct Names {
+// A refusal and the byte of its name; both 0 where no name is refused.
+pub struct NameFault {
     pub refusal: u8,
     pub a: usize,
-    pub top: usize,
+}
+
+// A refusal and the byte of its name; refusal 0: the entries stand in the array from top to its end, the last one first.
+struct Names {
+    refusal: u8,
+    a: usize,
+    top: usize,
+}
+
+fn fault_of(names: Names) -> NameFault
+    ensures { λ r. ⌜ r ≡ faultOf (answered names []) ⌝ }
+{
+    if names.refusal == 0 {
+        return NameFault { refusal: 0, a: 0 };
+    }
+    NameFault {
+        refusal: names.refusal,
+        a: names.a,
+    }
 }
 
 fn name_at(text: &[u8], a: usize) -> Name
@@ -278,14 +296,8 @@ fn read_names(text: &[u8], at: usize, stack: &mut [u8], entries: &mut [usize], t
     n
 }
 
-// The names of the op whose first token is at or after byte at; past the end of the text there is none. The array needs a free place for each token.
-pub fn names_in(
-    text: &[u8],
-    at: usize,
-    stack: &mut [u8],
-    entries: &mut [usize],
-    top: usize,
-) -> Names
+// The entries after the op whose first token is at or after byte at; past the end of the text there is none.
+fn after_op(text: &[u8], at: usize, stack: &mut [u8], entries: &mut [usize], top: usize) -> Names
     requires { ⌜ (length (now text) ≤ 65536) × (length (now stack) ≡ 655380) × (length (now text) + 1 ≤ top) × (top ≤ length (now entries)) ⌝ }
     ensures { λ r. ⌜ Scoped (namesOf (now (text .entry)) at (drop top (now (entries .entry)))) (length (now (text .entry)) + 1) (now (entries .entry)) top r (now (entries .exit)) ⌝ }
 {
@@ -299,8 +311,22 @@ pub fn names_in(
     n
 }
 
-// The inputs' names, at these places.
-pub fn inputs_in(text: &[u8], places: &[usize], entries: &mut [usize], top: usize) -> Names
+// The names of that op, those in the array from top on being known. The array needs a free place for each token.
+pub fn names_in(
+    text: &[u8],
+    at: usize,
+    stack: &mut [u8],
+    entries: &mut [usize],
+    top: usize,
+) -> NameFault
+    requires { ⌜ (length (now text) ≤ 65536) × (length (now stack) ≡ 655380) × (length (now text) + 1 ≤ top) × (top ≤ length (now entries)) ⌝ }
+    ensures { λ r. ⌜ r ≡ faultOf (namesOf (now (text .entry)) at (drop top (now (entries .entry)))) ⌝ }
+{
+    fault_of(after_op(text, at, stack, entries, top))
+}
+
+// The entries after the inputs' names, at these places.
+fn after_inputs(text: &[u8], places: &[usize], entries: &mut [usize], top: usize) -> Names
     requires { ⌜ (length (now places) ≤ top) × (top ≤ length (now entries)) ⌝ }
     ensures { λ r. ⌜ Scoped (inputsFrom (now (text .entry)) (drop top (now (entries .entry))) (now (places .entry))) (length (now (places .entry))) (now (entries .entry)) top r (now (entries .exit)) ⌝ }
 {
@@ -318,4 +344,12 @@ pub fn inputs_in(text: &[u8], places: &[usize], entries: &mut [usize], top: usiz
         i += 1;
     }
     n
+}
+
+// The inputs' names, at these places. The array needs a free place for each.
+pub fn inputs_in(text: &[u8], places: &[usize], entries: &mut [usize]) -> NameFault
+    requires { ⌜ length (now places) ≤ length (now entries) ⌝ }
+    ensures { λ r. ⌜ r ≡ faultOf (inputsFrom (now (text .entry)) [] (now (places .entry))) ⌝ }
+{
+    fault_of(after_inputs(text, places, entries, entries.len()))
 }

@@ -13,11 +13,11 @@ part-inputs-in-end c =
 
 returns : tie.Need-returns
 returns c =
-    let s = c .before .before .before .before .before .before .before .before .before .before in
+    let s = c .before .before .before .before .before .before .before .before .before in
     let long : length (s .args .header .at) ≡ 88 = search needs in
-    inputs-said _ _ _ (s .pre .0) long (s .pre .1) (c .before .before .before .inputs-in .ensures) (c .fault-of .ensures)
+    inputs-said _ _ _ (s .pre .0) long (c .before .before .inputs-in .ensures)
 
 pub input-names-spec : {M : Type 1} → statement M
 input-names-spec =
     tie.close (tie.spec (λ c. search needs) (λ c. search needs) (λ c. search needs) (λ c. search needs) (λ c. search needs) part-inputs-in-end
-    (λ c κs. search needs) (λ c κs. search needs) (λ c. search needs) returns)
+    (λ c κs. search needs) (λ c. search needs) returns)

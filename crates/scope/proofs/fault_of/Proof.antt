@@ -1,8 +1,10 @@
+-- `scope::fault_of` meets its contract.
+-- Assumes nothing.
 use borrow.Author.Tests.{eq-eqb, ne-eqb}
 use Rattle.scope.specs.Scoped.{answered}
-use Rattle.known.specs.Known.{faultOf}
-use Rattle.known.proofs.fault_of.Statement.{statement}
-use Rattle.known.proofs.fault_of.Tie as tie
+use Rattle.scope.specs.Scope.{faultOf}
+use Rattle.scope.proofs.fault_of.Statement.{statement}
+use Rattle.scope.proofs.fault_of.Tie as tie
 
 returns : tie.Need-returns
 unfolding answered faultOf
