@@ -1,4 +1,5 @@
 // The names of one op against the values before it, and of the inputs: refusals 5 and 6.
+use limits::Limits;
 use places::Part;
 use program::Parts;
 use scope::Names;
@@ -30,6 +31,13 @@ fn fault_of(names: Names) -> Fault
     }
 }
 
+// The names in scope: one free place for each token of the longest text, and one for each value.
+pub struct Entries {}
+
+impl Entries {
+    pub const SIZE: usize = Limits::TEXT + 1 + Limits::VALUES;
+}
+
 // Lays the names of the first n values at the end of the array, the last one first.
 fn lay_names(values: Values, n: usize, entries: &mut [usize])
     requires { ⌜ (n ≤ 264) × (n ≤ length (now entries)) ⌝ }
@@ -57,7 +65,7 @@ pub fn op_names(
     ensures { λ r. ⌜ r ≡ namesFault (now (text .entry)) (values .list) n at ⌝ }
 {
     lay_names(values, n, entries);
-    fault_of(names_in(text, at, stack, entries, 65801 - n))
+    fault_of(names_in(text, at, stack, entries, Entries::SIZE - n))
 }
 
 // The names of the first n inputs of a header.
@@ -66,6 +74,6 @@ pub fn input_names(text: &[u8], header: Parts, n: usize, entries: &mut [usize]) 
     ensures { λ r. ⌜ r ≡ inputsFault (now (text .entry)) header n ⌝ }
 {
     let places = header.at;
-    let first = 8 * Part::INPUT_NAME;
-    fault_of(inputs_in(text, &places[first..first + n], entries, 65801))
+    let first = Limits::OPERANDS * Part::INPUT_NAME;
+    fault_of(inputs_in(text, &places[first..first + n], entries, Entries::SIZE))
 }
