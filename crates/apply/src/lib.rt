@@ -8,6 +8,7 @@ ghost use Rattle.run.specs.Run.{gives};
 ghost use Rattle.ops.specs.Ops.{moved};
 ghost use Rattle.apply.specs.Apply.{nodeOf, MoveReady, Ready, outcome};
 use element::ElementType;
+use limits::Limits;
 use ops::Kind;
 use ops::Move;
 use shape::Shape;
@@ -23,9 +24,9 @@ pub struct Task {
     pub last: Shape,
     pub to: Shape,
     pub count: usize,
-    pub first: [usize; 6],
-    pub second: [usize; 6],
-    pub limit: [usize; 6],
+    pub first: [usize; Limits::LIST],
+    pub second: [usize; Limits::LIST],
+    pub limit: [usize; Limits::LIST],
 }
 
 fn is_single(s: Shape) -> bool
@@ -61,7 +62,7 @@ fn first_of(y: &[u64]) -> u64
 }
 
 // x, y and z are the operands; starts are dynamic_slice's.
-pub fn fill(k: Task, starts: [u64; 6], x: &[u64], y: &[u64], z: &[u64], out: &mut [u64])
+pub fn fill(k: Task, starts: [u64; Limits::RANK], x: &[u64], y: &[u64], z: &[u64], out: &mut [u64])
     requires { ⌜ Ready k (k .kind) (now x) (now y) (now z) (now out) ⌝ }
     ensures { λ _. ⌜ outcome k (k .kind) starts (now (x .entry)) (now (y .entry)) (now (z .entry)) ≡ gives (now (out .exit)) ⌝ }
 {

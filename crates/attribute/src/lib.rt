@@ -4,6 +4,7 @@ use cursor::after;
 use cursor::past;
 use cursor::token;
 use element::ElementType;
+use limits::Limits;
 use optable::Kinds;
 use optable::find_choice;
 use optable::find_choice_kind;
@@ -19,7 +20,7 @@ ghost use Rattle.attribute.specs.Attribute.{tokenAfter, choiceForm, word
 // The numbers of a list, as signed 64-bit patterns.
 pub struct Numbers {
     pub count: usize,
-    pub list: [usize; 6],
+    pub list: [usize; Limits::LIST],
 }
 
 // The rows of a choice's two words in the table of ops.
@@ -131,7 +132,7 @@ fn no_numbers() -> Numbers
 {
     Numbers {
         count: 0,
-        list: [0; 6],
+        list: [0; Limits::LIST],
     }
 }
 
@@ -141,7 +142,7 @@ fn with_number(ns: Numbers, v: usize) -> Numbers
 {
     let mut next = ns;
     let n = next.count;
-    if n < 6 {
+    if n < Limits::LIST {
         next.count = n + 1;
         next.list[n] = v;
         return next;
@@ -167,7 +168,7 @@ fn numbers_from(text: &[u8], from: Cursor) -> Numbers
 {
     let mut ns = no_numbers();
     let mut c = from;
-    let mut left: usize = 6;
+    let mut left: usize = Limits::LIST;
     while left > 0 {
         let mark = token(text, c);
         if goes_on(mark.kind) {

@@ -7,6 +7,7 @@ use attribute::numbers_at;
 use dense::dense_fits;
 use dimrules::Numbers;
 use dimrules::TensorType;
+use limits::Limits;
 use optable::Kinds;
 use optable::Row;
 use optable::attribute_kind;
@@ -195,7 +196,7 @@ fn numbers_by(text: &[u8], name: usize, kind: usize) -> Numbers
             list,
         };
     }
-    let mut list = [0; 6];
+    let mut list = [0; Limits::LIST];
     if kind == Kinds::NUMBER {
         list[0] = number_at(text, name);
         return Numbers { count: 1, list };
@@ -212,7 +213,7 @@ pub fn numbers_of(text: &[u8], op: Parts, k: usize) -> Numbers
     }
     Numbers {
         count: 0,
-        list: [0; 6],
+        list: [0; Limits::LIST],
     }
 }
 

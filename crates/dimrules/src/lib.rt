@@ -1,5 +1,6 @@
 // What 000's constraints ask of types, dimensions and attribute lists.
 use element::ElementType;
+use limits::Limits;
 use shape::Shape;
 ghost use mathlib.Core.Path.{_≡_};
 ghost use mathlib.Core.Bool.{true, false, not, _&&_, _||_};
@@ -21,7 +22,7 @@ pub struct TensorType {
 // An attribute's numbers: the first count of the list, each as its 64 bits.
 pub struct Numbers {
     pub count: usize,
-    pub list: [usize; 6],
+    pub list: [usize; Limits::LIST],
 }
 
 // What a constraint asks of each dimension.
@@ -179,13 +180,13 @@ fn padded_is(low: usize, high: usize, interior: usize, n: usize, m: usize) -> bo
 }
 
 // The number at d of the first n of the list; 0 where there is none.
-fn at_within(list: [usize; 6], n: usize, d: usize) -> usize
+fn at_within(list: [usize; Limits::LIST], n: usize, d: usize) -> usize
     ensures { λ r. ⌜ r ≡ at (take n list) d ⌝ }
 {
     if n <= d {
         return 0;
     }
-    if 6 <= d {
+    if Limits::LIST <= d {
         return 0;
     }
     list[d]
@@ -335,7 +336,7 @@ fn shapes_of(x: TensorType, y: TensorType, k: usize) -> Sides
     let m = y.shape;
     let none = Numbers {
         count: 0,
-        list: [0usize; 6],
+        list: [0usize; Limits::LIST],
     };
     Sides {
         k,
@@ -394,7 +395,7 @@ fn type_test(t: TypeTest, x: TensorType, y: TensorType, k: usize) -> bool
 pub fn first_type(
     t: TypeTest,
     x: TensorType,
-    types: [TensorType; 8],
+    types: [TensorType; Limits::OPERANDS],
     from: usize,
     n: usize,
     k: usize,
@@ -414,7 +415,7 @@ pub fn first_type(
 pub fn all_types(
     t: TypeTest,
     x: TensorType,
-    types: [TensorType; 8],
+    types: [TensorType; Limits::OPERANDS],
     from: usize,
     n: usize,
     k: usize,
@@ -426,7 +427,7 @@ pub fn all_types(
 }
 
 // The sum of the sizes of dimension k of n operands.
-pub fn sum_dims(types: [TensorType; 8], n: usize, k: usize) -> usize
+pub fn sum_dims(types: [TensorType; Limits::OPERANDS], n: usize, k: usize) -> usize
     requires { ⌜ (n ≤ 8) × AllSized types ⌝ }
     ensures { λ r. ⌜ r ≡ sumOfDims types n k ⌝ }
 {

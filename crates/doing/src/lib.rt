@@ -13,6 +13,7 @@ use apply::Task;
 use dimrules::TensorType;
 use division::Division;
 use elementwise::Step;
+use limits::Limits;
 use opcheck::Operation;
 use ops::Kind;
 use shape::Shape;
@@ -91,24 +92,24 @@ fn slot_at(slots: &[u64], p: usize) -> u64
 }
 
 // The first slot of each operand from operand 1 on: dynamic_slice's starts.
-fn starts_of(places: [usize; 8], slots: &[u64]) -> [u64; 6]
+fn starts_of(places: [usize; Limits::OPERANDS], slots: &[u64]) -> [u64; Limits::RANK]
     ensures { λ r. ⌜ r ≡ tab 6 (startIn places (now (slots .entry))) ⌝ }
 {
-    let mut starts = [0u64; 6];
-    for d in 0..6 {
+    let mut starts = [0u64; Limits::RANK];
+    for d in 0..Limits::RANK {
         starts[d] = slot_at(slots, places[d + 1]);
     }
     starts
 }
 
 // The shapes of the operands' types.
-fn shapes_of(types: [TensorType; 8]) -> [Shape; 8]
+fn shapes_of(types: [TensorType; Limits::OPERANDS]) -> [Shape; Limits::OPERANDS]
     ensures { λ r. ⌜ r ≡ tab 8 (λ j. typeAt types j .shape) ⌝ }
 {
     let x = types[0];
     let s = x.shape;
-    let mut shapes = [s; 8];
-    for j in 0..8 {
+    let mut shapes = [s; Limits::OPERANDS];
+    for j in 0..Limits::OPERANDS {
         let t = types[j];
         let u = t.shape;
         shapes[j] = u;
@@ -117,7 +118,7 @@ fn shapes_of(types: [TensorType; 8]) -> [Shape; 8]
 }
 
 // Operand j; no slot where the op has no operand j.
-fn operand(o: Operation, places: [usize; 8], slots: &[u64], j: usize) -> &[u64]
+fn operand(o: Operation, places: [usize; Limits::OPERANDS], slots: &[u64], j: usize) -> &[u64]
     requires { ⌜ Shaped o × Placed o places (now slots) × (j < 8) ⌝ }
     ensures { λ r. ⌜ now r ≡ operandIn o places (now (slots .entry)) j ⌝ }
 {
@@ -160,7 +161,7 @@ fn constant_op(text: &[u8], o: Operation, literal: usize, out: &mut [u64])
 fn quotient_op(
     op: Division,
     o: Operation,
-    places: [usize; 8],
+    places: [usize; Limits::OPERANDS],
     slots: &[u64],
     out: &mut [u64],
 ) -> Step
@@ -182,7 +183,7 @@ fn quotient_op(
 }
 
 // The operands one after the other along a dimension.
-fn concatenate_op(o: Operation, places: [usize; 8], slots: &[u64], out: &mut [u64])
+fn concatenate_op(o: Operation, places: [usize; Limits::OPERANDS], slots: &[u64], out: &mut [u64])
     requires { ⌜ AcceptedAs Concatenate o × Placed o places (now slots) × Fills (now out) (o .result .shape) ⌝ }
     ensures { λ _. ⌜ Gives Concatenate o (argsIn o places (now (slots .entry))) (now (out .exit)) ⌝ }
 {
@@ -195,7 +196,13 @@ fn concatenate_op(o: Operation, places: [usize; 8], slots: &[u64], out: &mut [u6
 }
 
 // An op of any other class.
-fn task_op(kind: Kind, o: Operation, places: [usize; 8], slots: &[u64], out: &mut [u64])
+fn task_op(
+    kind: Kind,
+    o: Operation,
+    places: [usize; Limits::OPERANDS],
+    slots: &[u64],
+    out: &mut [u64],
+)
     requires { ⌜ AcceptedAs kind o × DoneByTask kind × Placed o places (now slots) × Fills (now out) (o .result .shape) ⌝ }
     ensures { λ _. ⌜ Gives kind o (argsIn o places (now (slots .entry))) (now (out .exit)) ⌝ }
 {
@@ -211,7 +218,7 @@ pub fn do_op(
     kind: Kind,
     o: Operation,
     literal: usize,
-    places: [usize; 8],
+    places: [usize; Limits::OPERANDS],
     slots: &[u64],
     out: &mut [u64],
 ) -> Step

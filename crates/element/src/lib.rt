@@ -1,32 +1,9 @@
-// Element types, their slots, and the sizes of paper 01.
+// Element types and their slots.
 ghost use mathlib.Core.Path.{_≡_};
 ghost use mathlib.Core.Bool.{true, false};
 ghost use lib.IntN.{pos};
 ghost use lib.Signed.{ltZ};
 ghost use Rattle.element.specs.Types.{widthOf, signedOf, boolOf, maskOf, lowestOf, highestOf, allOf, read, slotOf, valueOf, wrapTo, isValue};
-
-// 01, "Sizes": the text's bytes, then sizes 1 to 8.
-pub struct Limits {}
-
-impl Limits {
-    pub const TEXT: usize = 65536;
-
-    pub const RANK: usize = 6;
-
-    pub const VOLUME: usize = 4096;
-
-    pub const ELEMENTS: usize = 8192;
-
-    pub const OPS: usize = 256;
-
-    pub const OPERANDS: usize = 8;
-
-    pub const LIST: usize = 6;
-    // Size 7: an attribute number lies from -NUMBER - 1 to NUMBER.
-    pub const NUMBER: u64 = 0x7fff_ffff_ffff_ffff;
-
-    pub const NAME: usize = 32;
-}
 
 // 01, "Element types".
 pub enum ElementType {

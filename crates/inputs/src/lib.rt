@@ -1,5 +1,6 @@
 // The input slice against the program's inputs.
 use element::is_value;
+use limits::Limits;
 use offsets::offsets_of;
 use values::Values;
 ghost use mathlib.Core.Path.{_≡_};
@@ -19,7 +20,7 @@ pub fn input_slots(vs: Values) -> usize
 }
 
 // The input that slot s belongs to.
-fn input_of(vs: Values, offsets: [usize; 264], s: usize) -> usize
+fn input_of(vs: Values, offsets: [usize; Limits::VALUES], s: usize) -> usize
     requires { ⌜ (offsets ≡ offsetsOf vs) × (vs .inputs ≤ 8) ⌝ }
     ensures { λ r. ⌜ r ≡ inputOf vs s ⌝ }
 {
@@ -32,7 +33,7 @@ fn input_of(vs: Values, offsets: [usize; 264], s: usize) -> usize
 }
 
 // Whether slot s is a value of the type of its input.
-fn slot_fits(vs: Values, offsets: [usize; 264], inputs: &[u64], s: usize) -> bool
+fn slot_fits(vs: Values, offsets: [usize; Limits::VALUES], inputs: &[u64], s: usize) -> bool
     requires { ⌜ (offsets ≡ offsetsOf vs) × (vs .inputs ≤ 8) × (s < length (now inputs)) ⌝ }
     ensures { λ r. ⌜ r ≡ slotFits vs (now (inputs .entry)) s ⌝ }
 {

@@ -45,7 +45,7 @@ agrees text s (x ∷ xs) =
 
 -- what the text's refusal says of its readings, where the text is not too long
 whole : (text : List ℕ) → (textRefusal text .number ≡ 1 → ⊥) → Agrees (textRefusal text) (grammarFault text)
-unfolding textRefusal grammarFault
+unfolding textRefusal grammarFault readings
 whole text n = by-length (ltb 65536 (length text)) n (agrees text atStart (readings text))
   where
     by-length : (b : Bool) → (pick b (refuse 1 (length text) 0) (earliest text atStart (readings text)) .number ≡ 1 → ⊥) →
@@ -93,7 +93,7 @@ each-taken text s (x ∷ xs) e = by-number (eqb (refusalAt text s x .number) 0) 
 
 -- in a text without refusal 1 to 4 no token is refused
 pub accepted-each : (text : List ℕ) → textRefusal text .number ≡ 0 → Each text atStart (readings text)
-unfolding textRefusal
+unfolding textRefusal readings
 accepted-each text e = by-length (ltb 65536 (length text)) e
   where
     by-length : (b : Bool) → pick b (refuse 1 (length text) 0) (earliest text atStart (readings text)) .number ≡ 0 → Each text atStart (readings text)

@@ -10,8 +10,8 @@ use Rattle.text.specs.declared.Token.{Token}
 use Rattle.types.specs.Tensors.{typeOf}
 use Rattle.optable.specs.Table.{opNames, attributeNames, choiceKindNames, choiceNames}
 use Rattle.optable.specs.Find.{findOp, findAttribute, findChoiceKind, findChoice}
-use Rattle.grammar.specs.Symbols.{AttributeName, ChoiceKind, Choice}
-use Rattle.syntax.specs.Readings.{Reading, readings}
+use Rattle.grammar.specs.Symbols.{Program, AttributeName, ChoiceKind, Choice}
+use Rattle.syntax.specs.Readings.{Reading, readingsOf}
 use Rattle.judge.specs.declared.Refusal.{Refusal}
 use Rattle.judge.specs.declared.tally.Tally.{Tally}
 use Rattle.judge.specs.Roles.{among, opRoles, typeRoles}
@@ -51,6 +51,11 @@ earliest text s (x ∷ xs) =
     let later = earliest text (afterToken text s (x .role) (x .token)) xs in
     pick (eqb (r .number) 0) later r
 
--- "Refusals 1 to 4 come first: 1, then the earliest byte"; 1: "text too long", A "its length" ("Text up to 65,536 bytes")
+-- "Refusals 1 to 4 come first: 1, then the earliest byte"; 1: "text too long", A "its length" ("Text up to 65,536 bytes").
+-- Of a text that is read from byte at on.
+abbrev pub refusalFrom : List ℕ → ℕ → Refusal
+refusalFrom text at = pick (ltb 65536 (length text)) (refuse 1 (length text) 0) (earliest text atStart (readingsOf Program text at))
+
+-- the whole text
 unfoldable pub textRefusal : List ℕ → Refusal
-textRefusal text = pick (ltb 65536 (length text)) (refuse 1 (length text) 0) (earliest text atStart (readings text))
+textRefusal text = refusalFrom text 0

@@ -6,22 +6,25 @@ mod tally;
 ghost use mathlib.Core.Path.{_≡_};
 ghost use Prim.Native.Nat.{_≤_};
 ghost use lib.ListN.{length};
-ghost use Rattle.syntax.specs.Readings.{reading, readings};
+ghost use Rattle.grammar.specs.Symbols.{Program};
+ghost use Rattle.syntax.specs.Readings.{reading, readingsOf};
 ghost use Rattle.judge.specs.Tally.{Within, atStart};
-ghost use Rattle.judge.specs.Judge.{unknown, refusalAt, earliest, textRefusal};
+ghost use Rattle.judge.specs.Judge.{unknown, refusalAt, earliest, refusalFrom, textRefusal};
 use crate::roles::is_op;
 use crate::roles::is_type;
 use crate::sizes::size_passed;
 use crate::tally::Tally;
 use crate::tally::after_token;
-use element::Limits;
 use grammar::start;
 use grammar::symbols::Role;
 use grammar::symbols::Symbol;
+use limits::Limits;
 use optable::find_attribute;
 use optable::find_choice;
 use optable::find_choice_kind;
 use optable::find_op;
+use reader::Reader;
+use reader::new;
 use syntax::Stack;
 use syntax::read_token;
 use text::Token;
@@ -91,13 +94,13 @@ fn refusal_at(text: &[u8], s: Tally, fits: bool, role: u8, t: Token) -> Refusal
     }
 }
 
-// The earliest refusal of a text's tokens; the array holds what the grammar expects.
-fn earliest_refusal(text: &[u8], stack: &mut [u8]) -> Refusal
+// The earliest refusal of a text's tokens from a byte on; the array holds what the grammar expects.
+fn earliest_refusal(text: &[u8], from: usize, stack: &mut [u8]) -> Refusal
     requires { ⌜ (length (now text) ≤ 65536) × (length (now stack) ≡ 655380) ⌝ }
-    ensures { λ r. ⌜ r ≡ earliest (now (text .entry)) atStart (readings (now (text .entry))) ⌝ }
+    ensures { λ r. ⌜ r ≡ earliest (now (text .entry)) atStart (readingsOf Program (now (text .entry)) from) ⌝ }
 {
     let mut top = start(stack, Symbol::PROGRAM);
-    let mut at = 0;
+    let mut at = from;
     let mut left = text.len() + 1;
     let mut s = Tally {
         more: false,
@@ -132,9 +135,9 @@ fn earliest_refusal(text: &[u8], stack: &mut [u8]) -> Refusal
     }
 }
 
-// Refusal 1, 2, 3 or 4 of a text, or none.
-pub fn read_refusal(text: &[u8]) -> Refusal
-    ensures { λ r. ⌜ r ≡ textRefusal (now (text .entry)) ⌝ }
+// Refusal 1, 2, 3 or 4 of a text that is read from byte at on, or none.
+pub fn refusal_from(text: &[u8], at: usize) -> Refusal
+    ensures { λ r. ⌜ r ≡ refusalFrom (now (text .entry)) at ⌝ }
 {
     if Limits::TEXT < text.len() {
         return Refusal {
@@ -144,5 +147,19 @@ pub fn read_refusal(text: &[u8]) -> Refusal
         };
     }
     let mut stack: [u8; Stack::SIZE] = [0; Stack::SIZE];
-    earliest_refusal(text, &mut stack)
+    earliest_refusal(text, at, &mut stack)
+}
+
+// The same of a reader's text, from its position on.
+pub fn refusal_of<'a>(r: Reader<'a>) -> Refusal
+    ensures { λ q. ⌜ q ≡ refusalFrom (now (r .entry .text)) (r .entry .at) ⌝ }
+{
+    refusal_from(r.text, r.at)
+}
+
+// Refusal 1, 2, 3 or 4 of a text, or none.
+pub fn read_refusal(text: &[u8]) -> Refusal
+    ensures { λ r. ⌜ r ≡ textRefusal (now (text .entry)) ⌝ }
+{
+    refusal_of(new(text))
 }

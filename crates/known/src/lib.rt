@@ -1,4 +1,5 @@
 // The names of one op against the values before it, and of the inputs: refusals 5 and 6.
+use limits::Limits;
 use places::Part;
 use program::Parts;
 use scope::NameFault;
@@ -9,6 +10,13 @@ ghost use mathlib.Core.Path.{_≡_};
 ghost use Prim.Native.Nat.{_-_, _≤_};
 ghost use lib.ListN.{length, drop};
 ghost use Rattle.known.specs.Known.{knownNames, namesFault, inputsFault};
+
+// The names in scope: one free place for each token of the longest text, and one for each value.
+pub struct Entries {}
+
+impl Entries {
+    pub const SIZE: usize = Limits::TEXT + 1 + Limits::VALUES;
+}
 
 // Lays the names of the first n values at the end of the array, the last one first.
 fn lay_names(values: Values, n: usize, entries: &mut [usize])
@@ -37,7 +45,7 @@ pub fn op_names(
     ensures { λ r. ⌜ r ≡ namesFault (now (text .entry)) (values .list) n at ⌝ }
 {
     lay_names(values, n, entries);
-    names_in(text, at, stack, entries, 65801 - n)
+    names_in(text, at, stack, entries, Entries::SIZE - n)
 }
 
 // The names of the first n inputs of a header.
@@ -46,6 +54,6 @@ pub fn input_names(text: &[u8], header: Parts, n: usize, entries: &mut [usize]) 
     ensures { λ r. ⌜ r ≡ inputsFault (now (text .entry)) header n ⌝ }
 {
     let places = header.at;
-    let first = 8 * Part::INPUT_NAME;
+    let first = Limits::OPERANDS * Part::INPUT_NAME;
     inputs_in(text, &places[first..first + n], entries)
 }

@@ -12,6 +12,7 @@ ghost use Rattle.lists.specs.Lists.{tab};
 ghost use Rattle.maps.specs.Kinds.{coordOf, Computes, Ready, operandIndex, mappedAt, mapped, Fed};
 ghost use Rattle.maps.specs.Holds.{Stretches, ReshapeHolds, SliceHolds, PadHolds, DynamicSliceHolds, IotaHolds, ConcatenateHolds, Inputs};
 use element::ElementType;
+use limits::Limits;
 use shape::Shape;
 
 // The op whose formula maps the indices.
@@ -28,21 +29,27 @@ enum Kind {
 struct Map {
     kind: Kind,
     count: usize,
-    a: [usize; 6],
-    b: [usize; 6],
+    a: [usize; Limits::LIST],
+    b: [usize; Limits::LIST],
 }
 
 // The number at a place of a list of six, 0 past its end.
-fn at_or_zero(list: [usize; 6], p: usize) -> usize
+fn at_or_zero(list: [usize; Limits::LIST], p: usize) -> usize
     ensures { λ r. ⌜ r ≡ at list p ⌝ }
 {
-    if p < 6 {
+    if p < Limits::LIST {
         return list[p];
     }
     0
 }
 
-fn reverse_coordinate(dimensions: [usize; 6], count: usize, n: usize, x: usize, d: usize) -> usize
+fn reverse_coordinate(
+    dimensions: [usize; Limits::LIST],
+    count: usize,
+    n: usize,
+    x: usize,
+    d: usize,
+) -> usize
     requires { ⌜ (count ≤ 6) × (x < n) ⌝ }
     ensures { λ r. ⌜ r ≡ reverseCoord (take count dimensions) n x d ⌝ }
 {
@@ -88,7 +95,7 @@ fn pad_coordinate(low: usize, interior: usize, n: usize, x: usize) -> usize
 }
 
 // The coordinate of the operand's index in dimension d, of size n.
-fn coordinate(m: Map, n: usize, index: [usize; 6], d: usize) -> usize
+fn coordinate(m: Map, n: usize, index: [usize; Limits::RANK], d: usize) -> usize
     requires { ⌜ (m .count ≤ 6) × (d < 6) × Computes m n (at index) d ⌝ }
     ensures { λ r. ⌜ r ≡ coordOf m n (at index) d ⌝ }
 {
@@ -106,13 +113,13 @@ fn coordinate(m: Map, n: usize, index: [usize; 6], d: usize) -> usize
 }
 
 // The operand's index for an index of the result.
-fn operand_index(m: Map, from: Shape, index: [usize; 6]) -> [usize; 6]
+fn operand_index(m: Map, from: Shape, index: [usize; Limits::RANK]) -> [usize; Limits::RANK]
     requires { ⌜ (m .count ≤ 6) × (from .rank ≤ 6) × Ready m (dimsOf from) (at index) ⌝ }
     ensures { λ r. ⌜ r ≡ inSix (operandIndex m (dimsOf from) (at index)) ⌝ }
 {
     let rank = from.rank;
     let dims = from.dims;
-    let mut operand = [0usize; 6];
+    let mut operand = [0usize; Limits::RANK];
     for d in 0..rank {
         operand[d] = coordinate(m, dims[d], index, d);
     }
@@ -139,7 +146,13 @@ fn map_into(m: Map, x: &[u64], from: Shape, to: Shape, z: u64, out: &mut [u64])
     }
 }
 
-pub fn transpose(x: &[u64], from: Shape, permutation: [usize; 6], to: Shape, out: &mut [u64])
+pub fn transpose(
+    x: &[u64],
+    from: Shape,
+    permutation: [usize; Limits::LIST],
+    to: Shape,
+    out: &mut [u64],
+)
     requires { ⌜ Stretches from to (now x) (now out) ⌝ }
     ensures { λ _. ⌜ now (out .exit) ≡ transposed (take (from .rank) permutation) (dimsOf from) (dimsOf to) (now (x .entry)) ⌝ }
 {
@@ -148,7 +161,7 @@ pub fn transpose(x: &[u64], from: Shape, permutation: [usize; 6], to: Shape, out
         kind: Kind::Transpose,
         count: rank,
         a: permutation,
-        b: [0usize; 6],
+        b: [0usize; Limits::LIST],
     };
     map_into(m, x, from, to, 0, out);
 }
@@ -157,9 +170,9 @@ pub fn transpose(x: &[u64], from: Shape, permutation: [usize; 6], to: Shape, out
 pub fn slice(
     x: &[u64],
     from: Shape,
-    start: [usize; 6],
-    limit: [usize; 6],
-    strides: [usize; 6],
+    start: [usize; Limits::LIST],
+    limit: [usize; Limits::LIST],
+    strides: [usize; Limits::LIST],
     to: Shape,
     out: &mut [u64],
 )
@@ -176,7 +189,13 @@ pub fn slice(
 }
 
 // The operand and the result have the shape s.
-pub fn reverse(x: &[u64], s: Shape, dimensions: [usize; 6], count: usize, out: &mut [u64])
+pub fn reverse(
+    x: &[u64],
+    s: Shape,
+    dimensions: [usize; Limits::LIST],
+    count: usize,
+    out: &mut [u64],
+)
     requires { ⌜ Stretches s s (now x) (now out) × (count ≤ 6) ⌝ }
     ensures { λ _. ⌜ now (out .exit) ≡ reversed (take count dimensions) (dimsOf s) (now (x .entry)) ⌝ }
 {
@@ -184,12 +203,18 @@ pub fn reverse(x: &[u64], s: Shape, dimensions: [usize; 6], count: usize, out: &
         kind: Kind::Reverse,
         count: count,
         a: dimensions,
-        b: [0usize; 6],
+        b: [0usize; Limits::LIST],
     };
     map_into(m, x, s, s, 0, out);
 }
 
-pub fn broadcast_in_dim(x: &[u64], from: Shape, dimensions: [usize; 6], to: Shape, out: &mut [u64])
+pub fn broadcast_in_dim(
+    x: &[u64],
+    from: Shape,
+    dimensions: [usize; Limits::LIST],
+    to: Shape,
+    out: &mut [u64],
+)
     requires { ⌜ Stretches from to (now x) (now out) ⌝ }
     ensures { λ _. ⌜ now (out .exit) ≡ broadcasted (take (from .rank) dimensions) (dimsOf from) (dimsOf to) (now (x .entry)) ⌝ }
 {
@@ -197,7 +222,7 @@ pub fn broadcast_in_dim(x: &[u64], from: Shape, dimensions: [usize; 6], to: Shap
         kind: Kind::Broadcast,
         count: 0,
         a: dimensions,
-        b: [0usize; 6],
+        b: [0usize; Limits::LIST],
     };
     map_into(m, x, from, to, 0, out);
 }
@@ -206,8 +231,8 @@ pub fn broadcast_in_dim(x: &[u64], from: Shape, dimensions: [usize; 6], to: Shap
 pub fn pad(
     x: &[u64],
     from: Shape,
-    low: [usize; 6],
-    interior: [usize; 6],
+    low: [usize; Limits::LIST],
+    interior: [usize; Limits::LIST],
     z: u64,
     to: Shape,
     out: &mut [u64],
@@ -238,14 +263,19 @@ fn clamp_start(t: ElementType, start: u64, limit: usize) -> usize
     limit
 }
 
-fn adjusted_starts(t: ElementType, starts: [u64; 6], from: Shape, to: Shape) -> [usize; 6]
+fn adjusted_starts(
+    t: ElementType,
+    starts: [u64; Limits::RANK],
+    from: Shape,
+    to: Shape,
+) -> [usize; Limits::RANK]
     requires { ⌜ (from .rank ≤ 6) × DynamicSliceHolds (dimsOf from) (dimsOf to) ⌝ }
     ensures { λ r. ⌜ r ≡ inSix (tab (length (dimsOf from)) (adjustedStart t starts (dimsOf from) (dimsOf to))) ⌝ }
 {
     let rank = from.rank;
     let large = from.dims;
     let small = to.dims;
-    let mut adjusted = [0usize; 6];
+    let mut adjusted = [0usize; Limits::RANK];
     for d in 0..rank {
         adjusted[d] = clamp_start(t, starts[d], large[d] - small[d]);
     }
@@ -257,7 +287,7 @@ pub fn dynamic_slice(
     x: &[u64],
     from: Shape,
     t: ElementType,
-    starts: [u64; 6],
+    starts: [u64; Limits::RANK],
     to: Shape,
     out: &mut [u64],
 )
@@ -269,7 +299,7 @@ pub fn dynamic_slice(
         kind: Kind::Slice,
         count: 0,
         a: adjusted,
-        b: [1usize; 6],
+        b: [1usize; Limits::LIST],
     };
     map_into(m, x, from, to, 0, out);
 }
@@ -321,10 +351,10 @@ fn size_along(s: Shape, d: usize) -> usize
 fn concat_element(
     x: &[u64],
     dimension: usize,
-    shapes: [Shape; 8],
-    places: [usize; 8],
+    shapes: [Shape; Limits::OPERANDS],
+    places: [usize; Limits::OPERANDS],
     count: usize,
-    index: [usize; 6],
+    index: [usize; Limits::RANK],
 ) -> u64
     requires { ⌜ (dimension < 6) × Inputs (now x) shapes places count ⌝ }
     ensures { λ r. ⌜ r ≡ concatAt dimension (shapesOf shapes count) (inputsOf (now (x .entry)) shapes places count) index ⌝ }
@@ -349,8 +379,8 @@ fn concat_element(
 fn concat_at(
     x: &[u64],
     dimension: usize,
-    shapes: [Shape; 8],
-    places: [usize; 8],
+    shapes: [Shape; Limits::OPERANDS],
+    places: [usize; Limits::OPERANDS],
     count: usize,
     to: Shape,
     k: usize,
@@ -366,8 +396,8 @@ fn concat_at(
 pub fn concatenate(
     x: &[u64],
     dimension: usize,
-    shapes: [Shape; 8],
-    places: [usize; 8],
+    shapes: [Shape; Limits::OPERANDS],
+    places: [usize; Limits::OPERANDS],
     count: usize,
     to: Shape,
     out: &mut [u64],

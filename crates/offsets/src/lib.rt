@@ -1,4 +1,5 @@
 // Where each value stands in the store.
+use limits::Limits;
 use shape::size_of;
 use values::Values;
 ghost use mathlib.Core.Path.{_≡_};
@@ -18,13 +19,13 @@ pub fn value_size(vs: Values, i: usize) -> usize
 }
 
 // The slot at which each value begins.
-pub fn offsets_of(vs: Values) -> [usize; 264]
+pub fn offsets_of(vs: Values) -> [usize; Limits::VALUES]
     requires { ⌜ ValuesRead vs ⌝ }
     ensures { λ r. ⌜ r ≡ offsetsOf vs ⌝ }
 {
-    let mut list = [0usize; 264];
+    let mut list = [0usize; Limits::VALUES];
     let mut at = 0;
-    for i in 0..264 {
+    for i in 0..Limits::VALUES {
         let next = at + value_size(vs, i);
         list[i] = at;
         at = next;

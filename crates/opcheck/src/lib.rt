@@ -1,6 +1,7 @@
 // An op judged by its row of the op table.
 use dimrules::Numbers;
 use dimrules::TensorType;
+use limits::Limits;
 use optable::Row;
 use optable::Rule;
 ghost use mathlib.Core.Path.{_≡_};
@@ -12,7 +13,7 @@ ghost use Rattle.opcheck.specs.Judged.{takenAt, takenByTables, brokenBy,
 // first of its list, and compare_type's choice, 8 where it is absent; a constant's type; the types of a body's two arguments.
 pub struct Operation {
     pub arity: usize,
-    pub types: [TensorType; 8],
+    pub types: [TensorType; Limits::OPERANDS],
     pub result: TensorType,
     pub a: Numbers,
     pub b: Numbers,

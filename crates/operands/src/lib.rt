@@ -1,6 +1,7 @@
 // An op's operands against the values before it.
 use dimrules::both;
 use dimrules::same_type;
+use limits::Limits;
 use places::Part;
 use places::count_of;
 use places::place_of;
@@ -33,7 +34,11 @@ pub fn arity_of(op: Parts) -> usize
     ensures { λ r. ⌜ r ≡ arityOf op ⌝ }
 {
     let n = count_of(op, Part::OPERAND_NAME);
-    if n < 8 { n } else { 8 }
+    if n < Limits::OPERANDS {
+        n
+    } else {
+        Limits::OPERANDS
+    }
 }
 
 // Whether operand j is defined and its written type is that of its definition.
@@ -73,6 +78,6 @@ pub fn operands_typed(text: &[u8], op: Parts, values: Values, n: usize) -> bool
 {
     let names = count_of(op, Part::OPERAND_NAME);
     let types = count_of(op, Part::OPERAND_TYPE);
-    let counted = both(names < 9, types == names);
+    let counted = both(names < Parts::MORE, types == names);
     both(counted, first_untyped(text, op, values, n) == arity_of(op))
 }

@@ -2,6 +2,7 @@
 use dimrules::TensorType;
 use dimrules::both;
 use element::ElementType;
+use limits::Limits;
 use program::Parts;
 use shape::Shape;
 use types::tensors::type_at;
@@ -49,7 +50,7 @@ pub fn place_of(p: Parts, k: usize, j: usize) -> usize
     ensures { λ r. ⌜ r ≡ placeOf p k j ⌝ }
 {
     let at = p.at;
-    at[8 * k + j]
+    at[Limits::OPERANDS * k + j]
 }
 
 pub fn blank_type() -> TensorType
@@ -57,7 +58,7 @@ pub fn blank_type() -> TensorType
 {
     let shape = Shape {
         rank: 0,
-        dims: [0; 6],
+        dims: [0; Limits::RANK],
     };
     TensorType {
         element: ElementType::I1,

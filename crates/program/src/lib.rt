@@ -2,6 +2,7 @@
 use grammar::start;
 use grammar::symbols::Role;
 use grammar::symbols::Symbol;
+use limits::Limits;
 use syntax::Stack;
 use syntax::read_token;
 ghost use mathlib.Core.Path.{_≡_};
@@ -14,10 +15,18 @@ ghost use Rattle.syntax.specs.Readings.{readings};
 ghost use Rattle.program.specs.Parts.{partOf, noParts, addedTo, noted, depthAfter, partsOf, partsAt, opAt, bodyAt};
 ghost use Rattle.program.specs.Program.{noProgram, begun, inHeader, namesOp, beginsOp, namingAfter, outlined, programFrom, programOf};
 
+// The places of eleven parts: of each as many as size 5 lets a list have.
+const PLACES: usize = 11 * Limits::OPERANDS;
+
 // Part k has count[k] tokens, 9 standing for more than eight; the first eight start at the bytes at[8k] to at[8k + 7].
 pub struct Parts {
     pub count: [usize; 11],
-    pub at: [usize; 88],
+    pub at: [usize; PLACES],
+}
+
+impl Parts {
+    // The count of a part that has more tokens than places.
+    pub const MORE: usize = Limits::OPERANDS + 1;
 }
 
 // For each role 48 more than the number of its part.
@@ -39,7 +48,7 @@ fn empty_parts() -> Parts
 {
     Parts {
         count: [0; 11],
-        at: [0; 88],
+        at: [0; PLACES],
     }
 }
 
@@ -50,12 +59,12 @@ fn added_to(p: Parts, k: usize, place: usize) -> Parts
 {
     let mut next = p;
     let n = next.count[k];
-    if n < 8 {
+    if n < Limits::OPERANDS {
         next.count[k] = n + 1;
-        next.at[8 * k + n] = place;
+        next.at[Limits::OPERANDS * k + n] = place;
         return next;
     }
-    next.count[k] = 9;
+    next.count[k] = Parts::MORE;
     next
 }
 
@@ -127,7 +136,7 @@ fn parts_of(symbol: u8, level: usize, text: &[u8], at: usize, stack: &mut [u8]) 
 fn parts_at(symbol: u8, level: usize, text: &[u8], at: usize) -> Parts
     ensures { λ r. ⌜ r ≡ partsAt symbol level (now (text .entry)) at ⌝ }
 {
-    if text.len() > 65536 {
+    if text.len() > Limits::TEXT {
         return empty_parts();
     }
     let mut stack: [u8; Stack::SIZE] = [0; Stack::SIZE];
@@ -152,7 +161,12 @@ pub fn body_at(text: &[u8], at: usize) -> Parts
 pub struct Program {
     pub header: Parts,
     pub count: usize,
-    pub ops: [usize; 257],
+    pub ops: [usize; Limits::OPS_WITH_RETURN],
+}
+
+impl Program {
+    // The count of a program that has more ops than places.
+    pub const MORE: usize = Limits::OPS_WITH_RETURN + 1;
 }
 
 fn empty_program() -> Program
@@ -162,7 +176,7 @@ fn empty_program() -> Program
     Program {
         header: header,
         count: 0,
-        ops: [0; 257],
+        ops: [0; Limits::OPS_WITH_RETURN],
     }
 }
 
@@ -172,12 +186,12 @@ fn begin(p: Program, place: usize) -> Program
 {
     let mut next = p;
     let n = next.count;
-    if n < 257 {
+    if n < Limits::OPS_WITH_RETURN {
         next.count = n + 1;
         next.ops[n] = place;
         return next;
     }
-    next.count = 258;
+    next.count = Program::MORE;
     next
 }
 
@@ -304,7 +318,7 @@ fn program_in(text: &[u8], stack: &mut [u8]) -> Program
 pub fn program_of(text: &[u8]) -> Program
     ensures { λ r. ⌜ r ≡ programOf (now (text .entry)) ⌝ }
 {
-    if text.len() > 65536 {
+    if text.len() > Limits::TEXT {
         return empty_program();
     }
     let mut stack: [u8; Stack::SIZE] = [0; Stack::SIZE];

@@ -9,6 +9,7 @@ ghost use Rattle.shape.specs.Index.{at, size, unravel, elementAt, inSix};
 ghost use Rattle.shape.specs.Dims.{dimsOf, shapeFrom, Sized, Fills};
 ghost use Rattle.reduction.specs.Rows.{isIn, inserted, rowOver, rowAt, sliceShape, reduced, Stretches};
 use element::ElementType;
+use limits::Limits;
 use scalar::Body;
 use shape::Shape;
 
@@ -25,7 +26,7 @@ fn chosen(b: bool, x: usize, y: usize) -> usize
 }
 
 // Whether dimension d is reduced.
-fn is_in(dimensions: [usize; 6], count: usize, d: usize) -> bool
+fn is_in(dimensions: [usize; Limits::LIST], count: usize, d: usize) -> bool
     requires { ⌜ count ≤ 6 ⌝ }
     ensures { λ r. ⌜ r ≡ isIn (take count dimensions) d ⌝ }
 {
@@ -33,13 +34,13 @@ fn is_in(dimensions: [usize; 6], count: usize, d: usize) -> bool
 }
 
 // The dimensions that are reduced.
-fn slice_shape(from: Shape, dimensions: [usize; 6], count: usize) -> Shape
+fn slice_shape(from: Shape, dimensions: [usize; Limits::LIST], count: usize) -> Shape
     requires { ⌜ (from .rank ≤ 6) × (count ≤ 6) ⌝ }
     ensures { λ r. ⌜ r ≡ shapeFrom (sliceShape (take count dimensions) (dimsOf from)) ⌝ }
 {
     let rank = from.rank;
     let dims = from.dims;
-    let mut taken = [0usize; 6];
+    let mut taken = [0usize; Limits::RANK];
     let mut n = 0;
     for d in 0..rank {
         if is_in(dimensions, count, d) {
@@ -55,16 +56,16 @@ fn slice_shape(from: Shape, dimensions: [usize; 6], count: usize) -> Shape
 
 // The operand's index for the index j of the result and the index r of the input slice.
 fn insert_index(
-    dimensions: [usize; 6],
+    dimensions: [usize; Limits::LIST],
     count: usize,
     rank: usize,
-    j: [usize; 6],
-    r: [usize; 6],
-) -> [usize; 6]
+    j: [usize; Limits::RANK],
+    r: [usize; Limits::RANK],
+) -> [usize; Limits::RANK]
     requires { ⌜ (count ≤ 6) × (rank ≤ 6) ⌝ }
     ensures { λ i. ⌜ i ≡ inSix (tab rank (inserted (take count dimensions) (at j) (at r))) ⌝ }
 {
-    let mut index = [0usize; 6];
+    let mut index = [0usize; Limits::RANK];
     let mut n = 0;
     for d in 0..rank {
         let goes = is_in(dimensions, count, d);
@@ -78,10 +79,10 @@ fn insert_index(
 fn row_element(
     x: &[u64],
     from: Shape,
-    dimensions: [usize; 6],
+    dimensions: [usize; Limits::LIST],
     count: usize,
     inner: Shape,
-    j: [usize; 6],
+    j: [usize; Limits::RANK],
     q: usize,
 ) -> u64
     requires { ⌜ Sized from × Fills (now x) from × (count ≤ 6) × Sized inner × (q < size (dimsOf inner)) ⌝ }
@@ -99,11 +100,11 @@ fn fold_row(
     t: ElementType,
     x: &[u64],
     from: Shape,
-    dimensions: [usize; 6],
+    dimensions: [usize; Limits::LIST],
     count: usize,
     start: u64,
     inner: Shape,
-    j: [usize; 6],
+    j: [usize; Limits::RANK],
 ) -> u64
     requires { ⌜ Sized from × Fills (now x) from × (count ≤ 6) × Sized inner ⌝ }
     ensures { λ r. ⌜ r ≡ fold (bodyOf b t) start (rowOver (take count dimensions) (dimsOf from) (now (x .entry)) (dimsOf inner) (at j)) ⌝ }
@@ -123,7 +124,7 @@ fn reduced_at(
     t: ElementType,
     x: &[u64],
     from: Shape,
-    dimensions: [usize; 6],
+    dimensions: [usize; Limits::LIST],
     count: usize,
     start: u64,
     to: Shape,
@@ -142,7 +143,7 @@ pub fn reduce(
     t: ElementType,
     x: &[u64],
     from: Shape,
-    dimensions: [usize; 6],
+    dimensions: [usize; Limits::LIST],
     count: usize,
     start: u64,
     to: Shape,

@@ -18,6 +18,7 @@ use dimrules::same_shape;
 use dimrules::same_type;
 use dimrules::sum_dims;
 use element::ElementType;
+use limits::Limits;
 ghost use mathlib.Core.Path.{_≡_};
 ghost use mathlib.Core.Bool.{true, _&&_};
 ghost use Prim.Native.Nat.{_≤_};
@@ -61,7 +62,11 @@ fn rank_of(x: TensorType) -> usize
     s.rank
 }
 
-pub fn same_types_broken(types: [TensorType; 8], arity: usize, r: TensorType) -> usize
+pub fn same_types_broken(
+    types: [TensorType; Limits::OPERANDS],
+    arity: usize,
+    r: TensorType,
+) -> usize
     requires { ⌜ (arity ≤ 8) × Sized (r .shape) ⌝ }
     ensures { λ k. ⌜ k ≡ firstBroken (sameTypesConstraints types arity r) ⌝ }
 {
@@ -238,7 +243,7 @@ pub fn pad_broken(
 }
 
 pub fn concatenate_broken(
-    types: [TensorType; 8],
+    types: [TensorType; Limits::OPERANDS],
     arity: usize,
     dimension: usize,
     r: TensorType,
@@ -259,7 +264,7 @@ pub fn concatenate_broken(
 }
 
 pub fn dynamic_slice_broken(
-    types: [TensorType; 8],
+    types: [TensorType; Limits::OPERANDS],
     arity: usize,
     sizes: Numbers,
     r: TensorType,

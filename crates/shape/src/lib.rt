@@ -5,11 +5,12 @@ ghost use Rattle.shape.specs.Index.{size, volume, unravel, ravel, Within
 ghost use lib.ListN.{take};
 ghost use Rattle.shape.specs.Place.{placeIn};
 ghost use Rattle.shape.specs.Dims.{dimsOf, Sized, Fills};
+use limits::Limits;
 
 // The first rank numbers of dims are the dimensions.
 pub struct Shape {
     pub rank: usize,
-    pub dims: [usize; 6],
+    pub dims: [usize; Limits::RANK],
 }
 
 // The number of elements.
@@ -34,11 +35,11 @@ fn capped_product(n: usize, d: usize) -> usize
     if d == 0 {
         return n;
     }
-    if 4096 < d {
+    if Limits::VOLUME < d {
         return 4097;
     }
     let p = n * d;
-    if 4096 < p {
+    if Limits::VOLUME < p {
         return 4097;
     }
     p
@@ -59,7 +60,7 @@ pub fn volume_of(s: Shape) -> usize
 }
 
 // The index at a canonical position.
-pub fn index_at(s: Shape, k: usize) -> [usize; 6]
+pub fn index_at(s: Shape, k: usize) -> [usize; Limits::RANK]
     requires { ⌜ Sized s × (k < size (dimsOf s)) ⌝ }
     ensures { λ r. ⌜ r ≡ inSix (unravel (dimsOf s) k) ⌝ }
 {
@@ -67,7 +68,7 @@ pub fn index_at(s: Shape, k: usize) -> [usize; 6]
     let rank = s.rank;
     let dims = s.dims;
     let mut left = k;
-    let mut index = [0usize; 6];
+    let mut index = [0usize; Limits::RANK];
     for d in 0..rank {
         step = step / dims[d];
         index[d] = left / step;
@@ -77,7 +78,7 @@ pub fn index_at(s: Shape, k: usize) -> [usize; 6]
 }
 
 // The canonical position of an index.
-pub fn position(s: Shape, index: [usize; 6]) -> usize
+pub fn position(s: Shape, index: [usize; Limits::RANK]) -> usize
     requires { ⌜ Sized s × Within (dimsOf s) index ⌝ }
     ensures { λ r. ⌜ r ≡ ravel (dimsOf s) index ⌝ }
 {
@@ -91,7 +92,7 @@ pub fn position(s: Shape, index: [usize; 6]) -> usize
 }
 
 // Whether each coordinate is below its dimension.
-pub fn within(s: Shape, index: [usize; 6]) -> bool
+pub fn within(s: Shape, index: [usize; Limits::RANK]) -> bool
     requires { ⌜ s .rank ≤ 6 ⌝ }
     ensures { λ r. ⌜ r ≡ isWithin (dimsOf s) index ⌝ }
 {
@@ -106,7 +107,7 @@ pub fn within(s: Shape, index: [usize; 6]) -> bool
 }
 
 // The element at an index, or z where it is no index of the shape.
-pub fn element_at(x: &[u64], s: Shape, index: [usize; 6], z: u64) -> u64
+pub fn element_at(x: &[u64], s: Shape, index: [usize; Limits::RANK], z: u64) -> u64
     requires { ⌜ Sized s × Fills (now x) s ⌝ }
     ensures { λ r. ⌜ r ≡ elementAt (now (x .entry)) (dimsOf s) index z ⌝ }
 {
@@ -118,7 +119,7 @@ pub fn element_at(x: &[u64], s: Shape, index: [usize; 6], z: u64) -> u64
 }
 
 // The first place of x among the first count numbers, or count.
-pub fn place_in(list: [usize; 6], count: usize, x: usize) -> usize
+pub fn place_in(list: [usize; Limits::LIST], count: usize, x: usize) -> usize
     requires { ⌜ count ≤ 6 ⌝ }
     ensures { λ r. ⌜ r ≡ placeIn (take count list) x ⌝ }
 {

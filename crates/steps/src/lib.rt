@@ -10,6 +10,7 @@ use doing::do_op;
 use elementwise::Step;
 use kinds::kind_of;
 use kinds::literal_of;
+use limits::Limits;
 use program::Program;
 use program::op_at;
 use spans::places_of;
@@ -22,7 +23,7 @@ pub fn op_step(
     text: &[u8],
     p: Program,
     vs: Values,
-    starts: [usize; 264],
+    starts: [usize; Limits::VALUES],
     k: usize,
     slots: &[u64],
     out: &mut [u64],

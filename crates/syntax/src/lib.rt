@@ -3,6 +3,7 @@ use grammar::advance;
 use grammar::start;
 use grammar::symbols::Kind;
 use grammar::symbols::Symbol;
+use limits::Limits;
 use scan::bytes::byte_at;
 use text::Token;
 use text::names::is_word;
@@ -179,11 +180,11 @@ pub fn read_token(text: &[u8], at: usize, stack: &mut [u8], top: usize) -> Turn
     }
 }
 
-// The array that holds what is expected: ten symbols for each token of the longest text, and one to start from.
+// The array that holds what is expected: ten symbols for each token of the longest text, for its end, and to start from.
 pub struct Stack {}
 
 impl Stack {
-    pub const SIZE: usize = 655380;
+    pub const SIZE: usize = 10 * (Limits::TEXT + 2);
 }
 
 // No fault; the first byte of the first token at which the grammar fails; or a text of more than 65,536 bytes.
@@ -220,7 +221,7 @@ pub fn fault_of(symbol: u8, text: &[u8], at: usize, stack: &mut [u8]) -> Fault
 pub fn first_fault(text: &[u8]) -> Fault
     ensures { λ r. ⌜ r ≡ firstFault (now (text .entry)) ⌝ }
 {
-    if text.len() > 65536 {
+    if text.len() > Limits::TEXT {
         return Fault::Long;
     }
     let mut stack: [u8; Stack::SIZE] = [0; Stack::SIZE];

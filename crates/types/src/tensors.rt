@@ -12,7 +12,7 @@ ghost use Rattle.shape.specs.Dims.{dimsOf};
 ghost use Rattle.types.specs.Tensors.{widthNamed, elementNamed, stretch, dimensionsFrom, countOf, typed, foreign, typeAfter, typeOf};
 use crate::numbers::digit_of;
 use element::ElementType;
-use element::Limits;
+use limits::Limits;
 use scan::bytes::starts;
 use scan::typetext::opens_tensor;
 use scan::typetext::shape_end;
@@ -272,7 +272,7 @@ fn foreign_type() -> TypeRead
         element: ElementType::I1,
         shape: Shape {
             rank: 0,
-            dims: [0; 6],
+            dims: [0; Limits::RANK],
         },
         passed: 0,
     }

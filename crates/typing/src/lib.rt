@@ -4,6 +4,7 @@ use bodies::body_fits;
 use bodies::row_named;
 use dimrules::TensorType;
 use dimrules::both;
+use limits::Limits;
 use opcheck::Operation;
 use opcheck::broken_by;
 use opcheck::taken_by_tables;
@@ -49,12 +50,12 @@ fn type_at(text: &[u8], op: Parts, j: usize) -> TensorType
 }
 
 // The types of its operands as written.
-fn types_of(text: &[u8], op: Parts) -> [TensorType; 8]
+fn types_of(text: &[u8], op: Parts) -> [TensorType; Limits::OPERANDS]
     ensures { λ r. ⌜ r ≡ tab 8 (typesOf (now (text .entry)) op) ⌝ }
 {
     let none = blank_type();
-    let mut types = [none; 8];
-    for j in 0..8 {
+    let mut types = [none; Limits::OPERANDS];
+    for j in 0..Limits::OPERANDS {
         let t = type_at(text, op, j);
         types[j] = t;
     }

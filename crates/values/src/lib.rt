@@ -1,5 +1,6 @@
 // The values of a program: its inputs, then each op's result.
 use dimrules::TensorType;
+use limits::Limits;
 use places::Part;
 use places::blank_type;
 use places::count_of;
@@ -25,7 +26,7 @@ pub struct Value {
 pub struct Values {
     pub inputs: usize,
     pub count: usize,
-    pub list: [Value; 264],
+    pub list: [Value; Limits::VALUES],
 }
 
 fn no_value() -> Value
@@ -59,10 +60,10 @@ pub fn inputs_of(p: Program) -> usize
 {
     let header = p.header;
     let n = count_of(header, Part::INPUT_NAME);
-    if n < 8 {
+    if n < Limits::OPERANDS {
         return n;
     }
-    8
+    Limits::OPERANDS
 }
 
 // How many ops there are, the return not counted.
@@ -73,10 +74,10 @@ pub fn ops_of(p: Program) -> usize
     if n == 0 {
         return 0;
     }
-    if n < 257 {
+    if n < Limits::OPS_WITH_RETURN {
         return n - 1;
     }
-    256
+    Limits::OPS
 }
 
 pub fn value_at(text: &[u8], p: Program, i: usize) -> Value
@@ -105,8 +106,8 @@ pub fn values_in(text: &[u8], p: Program) -> Values
     ensures { λ r. ⌜ r ≡ valuesIn (now (text .entry)) p ⌝ }
 {
     let none = no_value();
-    let mut list = [none; 264];
-    for i in 0..264 {
+    let mut list = [none; Limits::VALUES];
+    for i in 0..Limits::VALUES {
         list[i] = value_or_none(text, p, i);
     }
     let inputs = inputs_of(p);

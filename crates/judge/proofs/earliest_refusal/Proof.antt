@@ -5,7 +5,8 @@ use Prim.Native.Nat.{_+_, _-_, _≤_}
 use native.Mathlib.Omega.{arith}
 use lib.ListN.{length, drop}
 use borrow.Author.Needs.{needs}
-use Rattle.syntax.specs.Readings.{readingsFrom, readingsOf, readings}
+use Rattle.grammar.specs.Symbols.{Program}
+use Rattle.syntax.specs.Readings.{readingsFrom, readingsOf}
 use Rattle.syntax.proofs.ReadingLaw.{all-read, none-left, Room, room-first, room-next}
 use Rattle.judge.specs.Tally.{atStart, Within}
 use Rattle.judge.specs.Judge.{earliest}
@@ -15,20 +16,20 @@ use Rattle.judge.proofs.earliest_refusal.Statement.{statement}
 use Rattle.judge.proofs.earliest_refusal.Tie as tie
 
 abbrev Inv-loop : tie.InvT-loop
-Inv-loop text stack₀ top₀ at₀ left₀ s₀ stack top at left s =
-    (earliest text s (readingsFrom left (drop top stack) text at) ≡ earliest text atStart (readings text))
+Inv-loop text from stack₀ top₀ at₀ left₀ s₀ stack top at left s =
+    (earliest text s (readingsFrom left (drop top stack) text at) ≡ earliest text atStart (readingsOf Program text from))
     × Room left top stack × (length stack ≡ 655380) × (left ≤ length text + 1) × Within (length text + 1 - left) s
 
 abbrev μ-loop : tie.MeasureT-loop
-μ-loop text stack₀ top₀ at₀ left₀ s₀ stack top at left s = left
+μ-loop text from stack₀ top₀ at₀ left₀ s₀ stack top at left s = left
 
 loop-holds : tie.Need-loop-holds Inv-loop μ-loop
-unfolding readings readingsOf
+unfolding readingsOf
 loop-holds c =
     let a = c .before .before .before .before .before .before .args in
     let p = c .before .before .before .before .before .before .pre in
     let s = c .before .before .start .ensures in (
-      ap (λ x. earliest (a .text .now) atStart (readingsFrom (length (a .text .now) + 1) x (a .text .now) 0)) (s .expects),
+      ap (λ x. earliest (a .text .now) atStart (readingsFrom (length (a .text .now) + 1) x (a .text .now) (a .from))) (s .expects),
       room-first (a .text .now) (p .0) (p .1) s,
       s .size ∙ p .1,
       omega arith,
