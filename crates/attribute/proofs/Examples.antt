@@ -14,12 +14,12 @@ use Rattle.scan.specs.TensorText.{elementEnd, typeClose}
 use Rattle.text.specs.Lex.{markToken, nameEnd, nameToken, signToken, quoteToken, plainWord, tensorToken, wordToken, lexeme, tokenAt}
 use Rattle.text.specs.Names.{wordIs}
 use Rattle.types.specs.Numbers.{digitsFrom, magnitudeOf, numberOf, inType, numberIn}
-use Rattle.optable.specs.Table.{choiceKinds, choices, choiceKindNames, choiceNames}
+use Rattle.optable.specs.Table.{choiceKinds, choiceForm, choices, choiceKindNames, choiceNames}
 use Rattle.optable.specs.Find.{same, placeIn, findChoiceKind, findChoice}
 use Rattle.attribute.specs.declared.Numbers.{Numbers}
 use Rattle.attribute.specs.declared.Chosen.{Chosen}
 use Rattle.attribute.specs.declared.Constant.{Constant}
-use Rattle.attribute.specs.Attribute.{tokenAfter, choiceForm, wordForm, choiceAt, formAt, patternAt, numberAt, noNumbers, withNumber, goesOn, numbersFrom, numbersAt, endsLiteral, closeFrom, denseAt}
+use Rattle.attribute.specs.Attribute.{tokenAfter, wordForm, choiceAt, formAt, patternAt, numberAt, noNumbers, withNumber, goesOn, numbersFrom, numbersAt, endsLiteral, closeFrom, denseAt}
 
 abbrev listed : Numbers → List ℕ
 listed ns = take (ns .count) (ns .list)

@@ -14,7 +14,7 @@ use Rattle.text.specs.Names.{wordIs}
 use Rattle.text.specs.declared.Token.{Token}
 use Rattle.element.specs.declared.ElementType.the-variants.{I64}
 use Rattle.types.specs.Numbers.{numberOf, numberIn}
-use Rattle.optable.specs.Table.{Numbers as NumberList, Number, Dense, Direction, CompareType, noKind}
+use Rattle.optable.specs.Table.{Numbers as NumberList, Number, Dense, choiceForm, noKind}
 use Rattle.optable.specs.Find.{findChoiceKind, findChoice}
 use Rattle.attribute.specs.declared.Numbers.{Numbers}
 use Rattle.attribute.specs.declared.Chosen.{Chosen}
@@ -28,10 +28,6 @@ tokenAfter (suc n) text at = tokenAfter n text (tokenAt text at .end)
 -- Attribute ::= Name '=' Value: the value's first token is the second after the name
 abbrev pub valueAt : List ℕ → ℕ → Token
 valueAt text name = tokenAfter 2 text name
-
--- the kind of a choice, by the row of its first word
-unfoldable pub choiceForm : ℕ → ℕ
-choiceForm row = pick (eqb row 0) Direction (pick (eqb row 1) CompareType noKind)
 
 -- a value that begins with a word: `array` or `dense`
 unfoldable pub wordForm : List ℕ → Token → ℕ

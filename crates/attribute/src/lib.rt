@@ -6,6 +6,7 @@ use cursor::token;
 use element::ElementType;
 use limits::Limits;
 use optable::Kinds;
+use optable::choice_form;
 use optable::find_choice;
 use optable::find_choice_kind;
 use text::Token;
@@ -15,7 +16,7 @@ ghost use mathlib.Core.Path.{_≡_};
 ghost use lib.ListN.{length};
 ghost use Rattle.scan.specs.Ascii.{ascii};
 ghost use Rattle.text.specs.Names.{wordIs};
-ghost use Rattle.attribute.specs.Attribute.{tokenAfter, choiceForm, wordForm, choiceAt, formAt, patternAt, numberAt, noNumbers, withNumber, goesOn, numbersFrom, numbersAt, endsLiteral, closeFrom, denseAt};
+ghost use Rattle.attribute.specs.Attribute.{tokenAfter, wordForm, choiceAt, formAt, patternAt, numberAt, noNumbers, withNumber, goesOn, numbersFrom, numbersAt, endsLiteral, closeFrom, denseAt};
 
 // The numbers of a list, as signed 64-bit patterns.
 pub struct Numbers {
@@ -60,18 +61,6 @@ fn is_dense(text: &[u8], start: usize, end: usize) -> bool
     is_word(text, start, end, b"dense")
 }
 
-fn choice_form(row: usize) -> usize
-    ensures { λ r. ⌜ r ≡ choiceForm row ⌝ }
-{
-    if row == 0 {
-        return Kinds::DIRECTION;
-    }
-    if row == 1 {
-        return Kinds::COMPARE_TYPE;
-    }
-    0
-}
-
 fn word_form(text: &[u8], t: Token) -> usize
     ensures { λ r. ⌜ r ≡ wordForm (now (text .entry)) t ⌝ }
 {
@@ -84,7 +73,7 @@ fn word_form(text: &[u8], t: Token) -> usize
     0
 }
 
-// The rows of the choice, 2 and 8 where the table has no such word.
+// The rows of the choice, ChoiceKinds::NONE and Choices::NONE where the table has no such word.
 pub fn choice_at(text: &[u8], name: usize) -> Chosen
     ensures { λ r. ⌜ r ≡ choiceAt (now (text .entry)) name ⌝ }
 {

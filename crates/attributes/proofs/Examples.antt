@@ -16,9 +16,9 @@ use Rattle.text.specs.Lex.{markToken, nameEnd, nameToken, signToken, quoteToken
 use Rattle.text.specs.Names.{wordIs}
 use Rattle.types.specs.Numbers.{digitsFrom, magnitudeOf, numberOf, inType, numberIn}
 use Rattle.types.specs.Tensors.{widthNamed, elementNamed, dimensionsFrom, countOf as «count-of», allFit, sizePassed, typed, foreign, typeAfter, typeOf}
-use Rattle.optable.specs.Table.{attributes, choiceKinds, choices, ops, attributeNames, choiceKindNames, choiceNames, rowAt, attributeKind, choiceKind, edgePaddingLow, dimension, comparisonDirection, value}
+use Rattle.optable.specs.Table.{attributes, choiceKinds, choices, ops, opNames, opNamed, attributeNames, choiceKindNames, choiceNames, choiceNamed, rowAt, attributeKind, choiceForm, saidAt, choiceKind, edgePaddingLow, dimension, comparisonDirection, value}
 use Rattle.optable.specs.Find.{same, placeIn, findAttribute, findChoiceKind, findChoice, slotIn}
-use Rattle.attribute.specs.Attribute.{tokenAfter, choiceForm, wordForm, choiceAt, formAt, patternAt, numberAt, noNumbers, withNumber, goesOn, numbersFrom, numbersAt, endsLiteral, closeFrom, denseAt}
+use Rattle.attribute.specs.Attribute.{tokenAfter, wordForm, choiceAt, formAt, patternAt, numberAt, noNumbers, withNumber, goesOn, numbersFrom, numbersAt, endsLiteral, closeFrom, denseAt}
 use Rattle.dense.specs.Dense.{booleanOf, literalOf, andThen, markAt, before, oneAt, itemsAt, denseAt as «lists-at», sameAt, denseValue}
 use Rattle.dimrules.specs.Count.{firstFailing, everywhere}
 use Rattle.dimrules.specs.Dims.{listOf}
@@ -42,13 +42,13 @@ op row names = record { row = row; names = names }
 
 -- rows of the op table
 abbrev compare : ℕ
-compare = 5
+compare = opNamed "compare"
 
 abbrev concatenate : ℕ
-concatenate = 6
+concatenate = opNamed "concatenate"
 
 abbrev constant : ℕ
-constant = 7
+constant = opNamed "constant"
 
 abbrev fits : Case → Bool
 fits c = attributesFit sample (opWith (c .names)) (rowAt (c .row))
@@ -72,7 +72,7 @@ examples :
     ≡ replicate 10 false)
     -- the values: a list, a number alone as its 64-bit pattern, none where the attribute does not stand; the choice LT; the sizes of a dense value's type
     × (map (λ k. listOf (numbersOf sample (opWith (443 ∷ 171 ∷ [])) k)) (edgePaddingLow ∷ dimension ∷ value ∷ []) ≡ (1 ∷ 0 ∷ []) ∷ (18446744073709551614 ∷ []) ∷ [] ∷ [])
-    × (choiceOf sample (opWith (60 ∷ 0 ∷ [])) comparisonDirection ≡ 5)
+    × (choiceOf sample (opWith (60 ∷ 0 ∷ [])) comparisonDirection ≡ choiceNamed "LT")
     × (dimsOf (denseType sample (opWith (309 ∷ [])) value .shape) ≡ 2 ∷ [])
-unfolding sample firstWhere isLetter isDigit isSpace isSigil isSign inRun runFrom runEnd startsWith inComment skipFrom skipEnd byteEnd wordEnd digitsEnd sizeNext shapeFrom shapeEnd complexEnd signEnd integerEnd fractionEnd scientificEnd floatEnd colonEnd parameterEnd moreEnd parametersEnd storageEnd quantizedEnd elementEnd typeClose markToken nameEnd nameToken signToken quoteToken plainWord tensorToken wordToken lexeme tokenAt wordIs digitsFrom magnitudeOf numberOf inType numberIn widthNamed elementNamed dimensionsFrom «count-of» allFit sizePassed typed foreign typeAfter typeOf attributes choiceKinds choices ops attributeNames choiceKindNames choiceNames rowAt attributeKind choiceKind same placeIn findAttribute findChoiceKind findChoice slotIn tokenAfter choiceForm wordForm choiceAt formAt patternAt numberAt noNumbers withNumber goesOn numbersFrom numbersAt endsLiteral closeFrom denseAt booleanOf literalOf andThen markAt before oneAt itemsAt «lists-at» sameAt denseValue firstFailing everywhere countOf placeOf typeIn attributesOf attributeOf standsAt stands choiceFits denseFits kindFits attributeFits neededAt attributesFit nameOf numbersBy numbersOf choiceOf denseType
+unfolding sample firstWhere isLetter isDigit isSpace isSigil isSign inRun runFrom runEnd startsWith inComment skipFrom skipEnd byteEnd wordEnd digitsEnd sizeNext shapeFrom shapeEnd complexEnd signEnd integerEnd fractionEnd scientificEnd floatEnd colonEnd parameterEnd moreEnd parametersEnd storageEnd quantizedEnd elementEnd typeClose markToken nameEnd nameToken signToken quoteToken plainWord tensorToken wordToken lexeme tokenAt wordIs digitsFrom magnitudeOf numberOf inType numberIn widthNamed elementNamed dimensionsFrom «count-of» allFit sizePassed typed foreign typeAfter typeOf attributes choiceKinds choices ops opNames attributeNames choiceKindNames choiceNames rowAt attributeKind saidAt choiceKind same placeIn findAttribute findChoiceKind findChoice slotIn tokenAfter choiceForm wordForm choiceAt formAt patternAt numberAt noNumbers withNumber goesOn numbersFrom numbersAt endsLiteral closeFrom denseAt booleanOf literalOf andThen markAt before oneAt itemsAt «lists-at» sameAt denseValue firstFailing everywhere countOf placeOf typeIn attributesOf attributeOf standsAt stands choiceFits denseFits kindFits attributeFits neededAt attributesFit nameOf numbersBy numbersOf choiceOf denseType
 examples = (refl, refl, refl, refl, refl)

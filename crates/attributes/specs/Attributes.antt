@@ -9,7 +9,7 @@ use lib.Dec.{ltb, eqb}
 use Rattle.lists.specs.Lists.{pick, tab, firstWhere}
 use Rattle.shape.specs.Dims.{dimsOf}
 use Rattle.text.specs.Lex.{tokenAt}
-use Rattle.optable.specs.Table.{Numbers as NumberList, Number, Dense, Direction, CompareType, attributeKind, choiceKind}
+use Rattle.optable.specs.Table.{Numbers as NumberList, Number, Dense, Direction, CompareType, noAttribute, noChoice, attributeKind, choiceKind}
 use Rattle.optable.specs.Find.{findAttribute, slotIn}
 use Rattle.optable.specs.declared.Row.{Row}
 use Rattle.attribute.specs.Attribute.{formAt, numberAt, numbersAt, choiceAt, denseAt}
@@ -25,7 +25,7 @@ use Rattle.places.specs.Places.{attributeName, countOf, placeOf, blankType, typ
 unfoldable pub attributesOf : Parts → ℕ
 attributesOf op = min (countOf op attributeName) 8
 
--- attribute j of an op: its number in the op table, 15 where there is none
+-- attribute j of an op: its number in the op table
 unfoldable pub attributeOf : List ℕ → Parts → ℕ → ℕ
 attributeOf text op j = let at = placeOf op attributeName j in findAttribute text at (tokenAt text at .end)
 
@@ -58,11 +58,11 @@ kindFits text name kind =
 unfoldable pub attributeFits : List ℕ → Parts → Row → ℕ → Bool
 attributeFits text op row j =
     let k = attributeOf text op j in
-    ltb k 15 && ltb (slotIn row k) 3 && eqb (standsAt text op k) j && kindFits text (placeOf op attributeName j) (attributeKind k)
+    ltb k noAttribute && ltb (slotIn row k) 3 && eqb (standsAt text op k) j && kindFits text (placeOf op attributeName j) (attributeKind k)
 
 -- the number of the attribute that must stand at place s of a row
 unfoldable pub neededAt : Row → ℕ → ℕ
-neededAt row s = getD (row .a ∷ row .b ∷ row .c ∷ []) s 15
+neededAt row s = getD (row .a ∷ row .b ∷ row .c ∷ []) s noAttribute
 
 -- the attributes are those of the row: each fits, and none is missing that must stand
 unfoldable pub attributesFit : List ℕ → Parts → Row → Bool
@@ -87,9 +87,9 @@ numbersBy text name kind =
 unfoldable pub numbersOf : List ℕ → Parts → ℕ → Numbers
 numbersOf text op k = pick (stands text op k) (numbersBy text (nameOf text op k) (attributeKind k)) noNumbers
 
--- the choice of attribute k; 8, the number of choices, where it does not stand
+-- the choice of attribute k; no choice where it does not stand
 unfoldable pub choiceOf : List ℕ → Parts → ℕ → ℕ
-choiceOf text op k = pick (stands text op k) (choiceAt text (nameOf text op k) .choice) 8
+choiceOf text op k = pick (stands text op k) (choiceAt text (nameOf text op k) .choice) noChoice
 
 -- the type written after the dense value of attribute k; tensor<i1> where it does not stand
 unfoldable pub denseType : List ℕ → Parts → ℕ → TensorType

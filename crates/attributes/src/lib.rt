@@ -8,6 +8,8 @@ use dense::dense_fits;
 use dimrules::Numbers;
 use dimrules::TensorType;
 use limits::Limits;
+use optable::Attributes;
+use optable::Choices;
 use optable::Kinds;
 use optable::Row;
 use optable::attribute_kind;
@@ -34,7 +36,7 @@ fn attributes_of(op: Parts) -> usize
     if n < 8 { n } else { 8 }
 }
 
-// Attribute j: its number in the op table, 15 where there is none.
+// Attribute j: its number in the op table.
 fn attribute_of(text: &[u8], op: Parts, j: usize) -> usize
     requires { ⌜ j < 8 ⌝ }
     ensures { λ r. ⌜ r ≡ attributeOf (now (text .entry)) op j ⌝ }
@@ -106,7 +108,7 @@ fn attribute_fits(text: &[u8], op: Parts, row: Row, j: usize) -> bool
     ensures { λ r. ⌜ r ≡ attributeFits (now (text .entry)) op row j ⌝ }
 {
     let k = attribute_of(text, op, j);
-    if 15 <= k {
+    if Attributes::NONE <= k {
         return false;
     }
     if 3 <= attribute_slot(row, k) {
@@ -145,7 +147,7 @@ fn needed_at(row: Row, s: usize) -> usize
     if s == 1 {
         return row.b;
     }
-    if s == 2 { row.c } else { 15 }
+    if s == 2 { row.c } else { Attributes::NONE }
 }
 
 // The first place of the row whose attribute must stand and does not; their number where none is missing.
@@ -217,14 +219,14 @@ pub fn numbers_of(text: &[u8], op: Parts, k: usize) -> Numbers
     }
 }
 
-// The choice of attribute k; 8, the number of choices, where it does not stand.
+// The choice of attribute k; Choices::NONE where it does not stand.
 pub fn choice_of(text: &[u8], op: Parts, k: usize) -> usize
     ensures { λ r. ⌜ r ≡ choiceOf (now (text .entry)) op k ⌝ }
 {
     if stands(text, op, k) {
         return choice_at(text, name_of(text, op, k)).choice;
     }
-    8
+    Choices::NONE
 }
 
 // The type written after the dense value of attribute k; tensor<i1> where it does not stand.

@@ -2,11 +2,11 @@
 -- way round, and returns it."
 -- Assumes nothing.
 use Prim.Native.Nat.{ℕ}
-use mathlib.Core.List.{List, [], _∷_}
+use mathlib.Core.List.{List}
 use mathlib.Core.Bool.{Bool, _&&_, _||_}
 use lib.Dec.{eqb}
-use Rattle.scan.specs.Bytes.{among}
 use Rattle.text.specs.Lex.{tokenAt}
+use Rattle.optable.specs.Table.{rowAt, mayReduce}
 use Rattle.optable.specs.Find.{findOp}
 use Rattle.program.specs.declared.Parts.{Parts}
 use Rattle.program.specs.Parts.{opAt, bodyAt}
@@ -40,9 +40,9 @@ opCounted body op =
 unfoldable pub rowNamed : List ℕ → ℕ → ℕ
 rowNamed text at = findOp text at (tokenAt text at .end)
 
--- "add, multiply, maximum, minimum, and, or, xor", by their rows
+-- "one op of add, multiply, maximum, minimum, and, or, xor", by its row
 unfoldable pub isReducer : ℕ → Bool
-isReducer row = among (1 ∷ 2 ∷ 13 ∷ 14 ∷ 15 ∷ 18 ∷ 33 ∷ []) row
+isReducer row = mayReduce (rowAt row .reducer)
 
 -- operand j of the body is its argument i
 unfoldable pub operandIs : List ℕ → Parts → ℕ → ℕ → Bool

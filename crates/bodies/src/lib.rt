@@ -4,6 +4,8 @@ use dimrules::both;
 use dimrules::either;
 use dimrules::same_type;
 use optable::find_op;
+use optable::may_reduce;
+use optable::op_row;
 use places::Part;
 use places::count_of;
 use places::place_of;
@@ -69,17 +71,11 @@ pub fn row_named(text: &[u8], at: usize) -> usize
     find_op(text, at, name.end)
 }
 
-// Add, and, maximum, minimum, multiply, or, xor.
+// Whether the op of a row may be a body's.
 fn is_reducer(row: usize) -> bool
     ensures { λ r. ⌜ r ≡ isReducer row ⌝ }
 {
-    let mut b = either(row == 33, false);
-    b = either(row == 18, b);
-    b = either(row == 15, b);
-    b = either(row == 14, b);
-    b = either(row == 13, b);
-    b = either(row == 2, b);
-    either(row == 1, b)
+    may_reduce(op_row(row).reducer)
 }
 
 // Whether operand j of the body is its argument i.

@@ -19,6 +19,10 @@ use grammar::start;
 use grammar::symbols::Role;
 use grammar::symbols::Symbol;
 use limits::Limits;
+use optable::Attributes;
+use optable::ChoiceKinds;
+use optable::Choices;
+use optable::Ops;
 use optable::find_attribute;
 use optable::find_choice;
 use optable::find_choice_kind;
@@ -42,20 +46,20 @@ fn is_unknown(text: &[u8], role: u8, t: Token) -> bool
     ensures { λ r. ⌜ r ≡ unknown (now (text .entry)) role t ⌝ }
 {
     if is_op(role) {
-        return find_op(text, t.start, t.end) == 34;
+        return find_op(text, t.start, t.end) == Ops::COUNT;
     }
     if is_type(role) {
         let x = type_at(text, t.start);
         return !x.known;
     }
     if role == Role::ATTRIBUTE_NAME {
-        return find_attribute(text, t.start, t.end) == 15;
+        return find_attribute(text, t.start, t.end) == Attributes::NONE;
     }
     if role == Role::CHOICE_KIND {
-        return find_choice_kind(text, t.start, t.end) == 2;
+        return find_choice_kind(text, t.start, t.end) == ChoiceKinds::NONE;
     }
     if role == Role::CHOICE {
-        return find_choice(text, t.start, t.end) == 8;
+        return find_choice(text, t.start, t.end) == Choices::NONE;
     }
     false
 }

@@ -21,7 +21,7 @@ use Rattle.grammar.specs.Symbols.{leafKinds, matches}
 use Rattle.syntax.specs.Kinds.{kindOf as kindOfToken, markKind, nameKind, quotedKind, tokenKind, wordKind}
 use Rattle.syntax.specs.Readings.{readings, readingsFrom, readingsOf}
 use Rattle.optable.specs.Find.{findAttribute, findChoice, findChoiceKind, findOp, placeIn, same, slotIn}
-use Rattle.optable.specs.Table.{attributeKind, attributeNames, attributes, choiceKind, choiceKindNames, choiceKinds, choiceNames, choices, opNames, ops, rowAt}
+use Rattle.optable.specs.Table.{attributeKind, attributeNames, attributes, choiceForm, choiceKind, choiceKindNames, choiceKinds, choiceNames, choices, opNames, ops, rowAt}
 use Rattle.optable.specs.Takes.{operandTaken, resultTaken, takes}
 use Rattle.judge.specs.Judge.{earliest, refusalAt, refuse, textRefusal, unknown}
 use Rattle.judge.specs.Roles.{among}
@@ -29,7 +29,7 @@ use Rattle.judge.specs.Sizes.{firstPassed, largeNumber, longList, longName, man
 use Rattle.judge.specs.Tally.{afterToken, counts, depthAfter as depthAfterRole, elementsAt, itemNumber, itemsAfter, opsAfter}
 use Rattle.program.specs.Parts.{addedTo, bodyAt, depthAfter as depthAfterPart, noParts, noted, opAt, partOf, partsAt, partsFrom, partsOf}
 use Rattle.program.specs.Program.{beginsOp, begun, inHeader, namesOp, namingAfter, noProgram, outlined, programFrom, programOf}
-use Rattle.attribute.specs.Attribute.{choiceAt, choiceForm, closeFrom, denseAt as denseAttribute, endsLiteral, formAt, goesOn, noNumbers, numberAt, numbersAt, numbersFrom, patternAt, tokenAfter, withNumber, wordForm}
+use Rattle.attribute.specs.Attribute.{choiceAt, closeFrom, denseAt as denseAttribute, endsLiteral, formAt, goesOn, noNumbers, numberAt, numbersAt, numbersFrom, patternAt, tokenAfter, withNumber, wordForm}
 use Rattle.dense.specs.Dense.{andThen, before, booleanOf, denseAt, denseValue, itemsAt, literalOf, markAt, oneAt, sameAt as sameElements}
 use Rattle.dimrules.specs.Count.{everywhere, firstFailing}
 use Rattle.dimrules.specs.Dims.{dimTest, isFirst, isIn, keptBelow, keptIs}

@@ -10,7 +10,7 @@ ghost use Rattle.dimrules.specs.Count.{firstFailing};
 ghost use Rattle.opcheck.specs.Judged.{takenAt, takenByTables, brokenBy, ReadSizes};
 
 // What is read of an op: the written types of its operands and of its result; its attributes a, b, c in the order of its row, where a number alone is the
-// first of its list, and compare_type's choice, 8 where it is absent; a constant's type; the types of a body's two arguments.
+// first of its list, and compare_type's choice, Choices::NONE where it is absent; a constant's type; the types of a body's two arguments.
 pub struct Operation {
     pub arity: usize,
     pub types: [TensorType; Limits::OPERANDS],

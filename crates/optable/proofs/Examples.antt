@@ -56,12 +56,12 @@ module _ where
 
   -- compare needs comparison_direction, may have compare_type, and has no dimensions
   compare-slots : (rowAt 5 .needed ≡ 1) × (slotIn (rowAt 5) comparisonDirection ≡ 0) × (slotIn (rowAt 5) compareType ≡ 1) × (slotIn (rowAt 5) dimensions ≡ 3)
-  unfolding rowAt ops slotIn firstWhere
+  unfolding rowAt ops slotIn firstWhere placeIn attributeNames attributes same
   compare-slots = (refl, refl, refl, refl)
 
   -- slice needs three lists; start_indices is foreign to dynamic_slice (OP-33)
   slice-slots : (rowAt 30 .needed ≡ 3) × (slotIn (rowAt 30) startIndices ≡ 0) × (slotIn (rowAt 30) strides ≡ 2) × (slotIn (rowAt 11) startIndices ≡ 3)
-  unfolding rowAt ops slotIn firstWhere
+  unfolding rowAt ops slotIn firstWhere placeIn attributeNames attributes same
   slice-slots = (refl, refl, refl, refl)
 
   -- OP-66: abs i8 -> ui8, negate i8 -> i1, compare -> i8, iota -> i1 are 7; add i8 -> i1 is 8

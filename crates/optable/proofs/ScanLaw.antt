@@ -15,14 +15,12 @@ use Rattle.lists.specs.Lists.{pick}
 use Rattle.optable.specs.declared.Word.{Word}
 use Rattle.optable.specs.Table.{names, nameBytes, wordAt}
 use Rattle.optable.specs.Find.{same, placeIn, stretch}
-use Rattle.optable.proofs.TableLaw.{bytes-length, names-length, word-name}
+use Rattle.optable.proofs.TableLaw.{word-name}
 use Rattle.optable.proofs.SameLaw.{same-step, same-end, same-lengths, place-step, place-end}
 
-module _ (bytes : List ℕ) (at len : ℕ) (fits : at + len ≤ 925) where
+module _ (bytes : List ℕ) (at len : ℕ) (fits : at + len ≤ length nameBytes) where
   word-length : length (take len (drop at nameBytes)) ≡ len
-  word-length =
-      let a = bytes-length in
-      simp (length-take, length-drop) (omega arith)
+  word-length = simp (length-take, length-drop) (omega arith)
 
   word-byte : (k : ℕ) → k < len → getD (take len (drop at nameBytes)) k 0 ≡ getD nameBytes (at + k) 0
   word-byte k h = getD-take len (drop at nameBytes) k 0 h ∙ getD-drop at nameBytes k 0
@@ -49,11 +47,9 @@ module _ (bytes : List ℕ) (at len : ℕ) (fits : at + len ≤ 925) where
     pub bytes-same : len ≤ k → true ≡ same (take len (drop at nameBytes)) bytes
     bytes-same h = sym (same-end (take len (drop at nameBytes)) bytes k (rw word-length h) (rw equal h)) ∙ matched
 
-module _ (bytes : List ℕ) (first count : ℕ) (fits : first + count ≤ 59) where
+module _ (bytes : List ℕ) (first count : ℕ) (fits : first + count ≤ length names) where
   part-length : length (take count (drop first names)) ≡ count
-  part-length =
-      let a = names-length in
-      simp (length-take, length-drop) (omega arith)
+  part-length = simp (length-take, length-drop) (omega arith)
 
   part-name : (k : ℕ) → k < count → getD (take count (drop first names)) k [] ≡ getD names (first + k) []
   part-name k h = getD-take count (drop first names) k [] h ∙ getD-drop first names k []

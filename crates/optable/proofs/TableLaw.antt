@@ -1,6 +1,6 @@
--- Laws of the tables: a row in numbers is the row again, and a name's place among the bytes holds that name.
+-- Laws of the tables: how many rows each has, a row of the code's table, what stands past the end, and the bytes at a name's place.
 -- Assumes nothing.
-use mathlib.Core.Path.{_≡_, refl, sym, _∙_}
+use mathlib.Core.Path.{_≡_, refl, sym, ap, _∙_}
 use mathlib.Core.Bool.{Bool, true, false}
 use mathlib.Core.List.{List, [], _∷_, _++_, map, append-assoc}
 use Prim.Native.Nat.{ℕ, zero, suc, _+_, _≤_, _<_}
@@ -9,16 +9,55 @@ use native.Mathlib.Omega.{arith}
 use lib.Dec.{eqb}
 use lib.ListN.{length, getD, take, drop, length-append, «List·getD-map»}
 use lib.Seq.{drop-append-seam, take-append-seam, getD-drop}
-use Rattle.lists.specs.Lists.{concat}
+use Rattle.lists.specs.Lists.{firstWhere, concat}
 use Rattle.optable.specs.declared.Takes.{Takes}
-use Rattle.optable.specs.declared.Takes.the-variants.{Any, Integer, Signed, Boolean}
 use Rattle.optable.specs.declared.Rule.{Rule}
-use Rattle.optable.specs.declared.Rule.the-variants.{SameTypes, Abs, Broadcast, Clamp, Compare, Concatenate, Constant, Convert, DynamicSlice, Iota, Pad, Reduce, Reshape, Reverse, Select, Slice, Transpose}
 use Rattle.optable.specs.declared.Row.{Row}
 use Rattle.optable.specs.declared.Entry.{Entry}
-use Rattle.optable.specs.Table.{Op, Named, attributeKind, choiceKind, ops, attributes, choiceKinds, choices, opNames, attributeNames, choiceKindNames, choiceNames, names, nameBytes, places, noWord, wordAt, rowsFrom, noRow, rowAt, takesCode, takesOf, ruleCode, ruleOf, bit, entryOf, entryAt}
+use Rattle.optable.specs.declared.Takes.the-variants.{Any, Integer, Signed, Boolean}
+use Rattle.optable.specs.declared.Rule.the-variants as rule
+use Rattle.scalar.specs.declared.Direction.the-variants.{Eq}
+use Rattle.optable.specs.declared.Choice.the-variants as choice
+use Rattle.optable.specs.Names.{same, placeIn}
+use Rattle.optable.specs.Table.{Op, Named, Chosen, value, comparisonDirection, compareType, choiceNamed, attributeKind, choiceForm, saidAt, choiceKind, directionSaid, directionAt, ops, attributes, choiceKinds, choices, opNames, attributeNames, choiceKindNames, choiceNames, names, nameBytes, places, noWord, wordAt, rowsFrom, noRow, rowAt, takesCode, takesOf, ruleCode, ruleOf, bit, entryOf, entryAt}
 
--- ---- rows in numbers
+-- ---- how many rows
+
+pub ops-count : length ops ≡ 34
+unfolding ops
+ops-count = refl
+
+pub attributes-count : length attributes ≡ 15
+unfolding attributes
+attributes-count = refl
+
+pub choices-count : length choices ≡ 8
+unfolding choices
+choices-count = refl
+
+-- ---- the places of names that the code knows
+
+pub value-place : value ≡ 0
+unfolding attributes attributeNames placeIn firstWhere same
+value-place = refl
+
+pub direction-place : comparisonDirection ≡ 13
+unfolding attributes attributeNames placeIn firstWhere same
+direction-place = refl
+
+pub type-place : compareType ≡ 14
+unfolding attributes attributeNames placeIn firstWhere same
+type-place = refl
+
+pub signed-place : choiceNamed "SIGNED" ≡ 6
+unfolding choices choiceNames placeIn firstWhere same
+signed-place = refl
+
+pub unsigned-place : choiceNamed "UNSIGNED" ≡ 7
+unfolding choices choiceNames placeIn firstWhere same
+unsigned-place = refl
+
+-- ---- rows
 
 pub entry-row : (i : ℕ) → entryAt i ≡ entryOf (rowAt i)
 unfolding entryAt rowAt
@@ -40,43 +79,43 @@ takes-small Boolean = omega arith
 
 rule-back : (r : Rule) → ruleOf (ruleCode r) ≡ r
 unfolding ruleOf ruleCode
-rule-back SameTypes = refl
-rule-back Abs = refl
-rule-back Broadcast = refl
-rule-back Clamp = refl
-rule-back Compare = refl
-rule-back Concatenate = refl
-rule-back Constant = refl
-rule-back Convert = refl
-rule-back DynamicSlice = refl
-rule-back Iota = refl
-rule-back Pad = refl
-rule-back Reduce = refl
-rule-back Reshape = refl
-rule-back Reverse = refl
-rule-back Select = refl
-rule-back Slice = refl
-rule-back Transpose = refl
+rule-back rule.SameTypes = refl
+rule-back rule.Abs = refl
+rule-back rule.Broadcast = refl
+rule-back rule.Clamp = refl
+rule-back rule.Compare = refl
+rule-back rule.Concatenate = refl
+rule-back rule.Constant = refl
+rule-back rule.Convert = refl
+rule-back rule.DynamicSlice = refl
+rule-back rule.Iota = refl
+rule-back rule.Pad = refl
+rule-back rule.Reduce = refl
+rule-back rule.Reshape = refl
+rule-back rule.Reverse = refl
+rule-back rule.Select = refl
+rule-back rule.Slice = refl
+rule-back rule.Transpose = refl
 
 rule-small : (r : Rule) → ruleCode r < 17
 unfolding ruleCode
-rule-small SameTypes = omega arith
-rule-small Abs = omega arith
-rule-small Broadcast = omega arith
-rule-small Clamp = omega arith
-rule-small Compare = omega arith
-rule-small Concatenate = omega arith
-rule-small Constant = omega arith
-rule-small Convert = omega arith
-rule-small DynamicSlice = omega arith
-rule-small Iota = omega arith
-rule-small Pad = omega arith
-rule-small Reduce = omega arith
-rule-small Reshape = omega arith
-rule-small Reverse = omega arith
-rule-small Select = omega arith
-rule-small Slice = omega arith
-rule-small Transpose = omega arith
+rule-small rule.SameTypes = omega arith
+rule-small rule.Abs = omega arith
+rule-small rule.Broadcast = omega arith
+rule-small rule.Clamp = omega arith
+rule-small rule.Compare = omega arith
+rule-small rule.Concatenate = omega arith
+rule-small rule.Constant = omega arith
+rule-small rule.Convert = omega arith
+rule-small rule.DynamicSlice = omega arith
+rule-small rule.Iota = omega arith
+rule-small rule.Pad = omega arith
+rule-small rule.Reduce = omega arith
+rule-small rule.Reshape = omega arith
+rule-small rule.Reverse = omega arith
+rule-small rule.Select = omega arith
+rule-small rule.Slice = omega arith
+rule-small rule.Transpose = omega arith
 
 bit-back : (b : Bool) → eqb (bit b) 1 ≡ b
 unfolding bit
@@ -87,26 +126,26 @@ module _ (e : Entry) (i : ℕ) (p : e ≡ entryAt i) where
   is-row : e ≡ entryOf (rowAt i)
   is-row = p ∙ entry-row i
 
-  pub first-small : e .9 < 4
+  pub first-small : e .0 .9 < 4
   unfolding entryOf
   first-small = rw is-row (takes-small (rowAt i .first))
 
-  pub rest-small : e .10 < 4
+  pub rest-small : e .0 .10 < 4
   unfolding entryOf
   rest-small = rw is-row (takes-small (rowAt i .rest))
 
-  pub result-small : e .12 < 4
+  pub result-small : e .0 .12 < 4
   unfolding entryOf
   result-small = rw is-row (takes-small (rowAt i .result))
 
-  pub rule-in : e .13 < 17
+  pub rule-in : e .0 .13 < 17
   unfolding entryOf
   rule-in = rw is-row (rule-small (rowAt i .rule))
 
-  -- the row that its numbers stand for
-  pub row-back : (f s t : Takes) (u : Rule) → f ≡ takesOf (e .9) → s ≡ takesOf (e .10) → t ≡ takesOf (e .12) → u ≡ ruleOf (e .13) →
+  -- the row that it stands for
+  pub row-back : (f s t : Takes) (u : Rule) → f ≡ takesOf (e .0 .9) → s ≡ takesOf (e .0 .10) → t ≡ takesOf (e .0 .12) → u ≡ ruleOf (e .0 .13) →
       _≡_ {A = Row}
-      (record { at = e .0; len = e .1; least = e .2; most = e .3; needed = e .4; a = e .5; b = e .6; c = e .7; body = eqb (e .8) 1; first = f; rest = s; scalars = eqb (e .11) 1; result = t; rule = u })
+      (record { at = e .0 .0; len = e .0 .1; least = e .0 .2; most = e .0 .3; needed = e .0 .4; a = e .0 .5; b = e .0 .6; c = e .0 .7; body = eqb (e .0 .8) 1; first = f; rest = s; scalars = eqb (e .0 .11) 1; result = t; rule = u; class = e .1; reducer = e .2 })
       (rowAt i)
   unfolding entryOf
   row-back f s t u a b c d =
@@ -117,17 +156,21 @@ getD-past [] i d h = refl
 getD-past (x ∷ l) zero d h = absurd (not-suc-le-zero h)
 getD-past (x ∷ l) (suc i) d h = getD-past l i d (le-of-suc-le-suc h)
 
-pub row-past : (i : ℕ) → 34 ≤ i → rowAt i ≡ noRow
+pub row-past : (i : ℕ) → length ops ≤ i → rowAt i ≡ noRow
 unfolding rowAt ops
 row-past i h = getD-past (rowsFrom 0 ops) i noRow h
 
-pub attribute-past : (k : ℕ) → 15 ≤ k → attributeKind k ≡ 0
+pub attribute-past : (k : ℕ) → length attributes ≤ k → attributeKind k ≡ 0
 unfolding attributeKind attributes
 attribute-past k h = getD-past (map (λ (a : Named). a .kind) attributes) k 0 h
 
-pub choice-past : (k : ℕ) → 8 ≤ k → choiceKind k ≡ 0
-unfolding choiceKind choices
-choice-past k h = getD-past (map (λ (a : Named). a .kind) choices) k 0 h
+pub form-past : (k : ℕ) → length choiceKinds ≤ k → choiceForm k ≡ 0
+unfolding choiceForm choiceKinds
+form-past k h = getD-past (map (λ (a : Named). a .kind) choiceKinds) k 0 h
+
+pub direction-past : (k : ℕ) → length choices ≤ k → directionAt k ≡ Eq
+unfolding directionAt saidAt choices
+direction-past k h = ap directionSaid (getD-past (map (λ (c : Chosen). c .says) choices) k (choice.Compares Eq) h)
 
 -- ---- names and their places
 
@@ -138,7 +181,7 @@ rows-places [] rest at i h = absurd (not-suc-le-zero h)
 rows-places (o ∷ os) rest at zero h = refl
 rows-places (o ∷ os) rest at (suc i) h = rows-places os rest (at + length (o .name)) i (le-of-suc-le-suc h)
 
-pub row-place : (i : ℕ) → i < 34 → wordAt i ≡ record { at = rowAt i .at; len = rowAt i .len }
+pub row-place : (i : ℕ) → i < length ops → wordAt i ≡ record { at = rowAt i .at; len = rowAt i .len }
 unfolding wordAt rowAt names opNames ops
 row-place i h = rows-places ops (attributeNames ++ choiceKindNames ++ choiceNames) 0 i h
 
@@ -168,20 +211,14 @@ pub names-length : length names ≡ 59
 unfolding names opNames attributeNames choiceKindNames choiceNames ops attributes choiceKinds choices
 names-length = refl
 
-pub word-name : (i : ℕ) → i < 59 → take (wordAt i .len) (drop (wordAt i .at) nameBytes) ≡ getD names i []
+pub word-name : (i : ℕ) → i < length names → take (wordAt i .len) (drop (wordAt i .at) nameBytes) ≡ getD names i []
 unfolding wordAt nameBytes
-word-name i h = place-holds [] names i (rw names-length h)
+word-name i h = place-holds [] names i h
 
-whole : length (concat names) ≡ 925
-unfolding nameBytes
-whole = bytes-length
+pub word-within : (i : ℕ) → i < length names → wordAt i .at + wordAt i .len ≤ length nameBytes
+unfolding wordAt nameBytes
+word-within i h = let r = place-within 0 names i h in omega (arith, r)
 
-pub word-within : (i : ℕ) → i < 59 → wordAt i .at + wordAt i .len ≤ 925
+pub others-places : (i : ℕ) → wordAt (length ops + i) ≡ getD (drop (length ops) (places 0 names)) i noWord
 unfolding wordAt
-word-within i h =
-    let r = place-within 0 names i (rw names-length h) in
-    omega (arith, r, whole)
-
-pub others-places : (i : ℕ) → wordAt (34 + i) ≡ getD (drop 34 (places 0 names)) i noWord
-unfolding wordAt
-others-places i = sym (getD-drop 34 (places 0 names) i noWord)
+others-places i = sym (getD-drop (length ops) (places 0 names) i noWord)

@@ -1,19 +1,35 @@
--- 01, "The text": "The op table has one row per op: its name, operand count, attributes and body." Each row also has the classes that
--- typing (refusal 7) and constraints (refusal 8) go by, from the op's Inputs, Outputs and Constraints in 000.
+-- 01, "The text": "The op table has one row per op: its name, operand count, attributes and body." Each row also has what typing (refusal 7) and
+-- constraints (refusal 8) go by, from the op's Inputs, Outputs and Constraints in 000; its class for evaluation ("Element by element", "Shape by
+-- shape"); and whether it may be the op of a reduction's body ("Reductions").
 -- Assumes nothing.
 use Prim.Native.Nat.{ℕ, _+_}
 use Prim.Native.String.{String}
 use mathlib.Core.List.{List, [], _∷_, _++_, map}
 use mathlib.Core.Bool.{Bool, true, false}
 use lib.ListN.{length, getD}
-use Rattle.lists.specs.Lists.{concat}
+use lib.Dec.{ltb}
+use Rattle.lists.specs.Lists.{pick, concat}
+use Rattle.division.specs.declared.Division.the-variants.{Divide, Remainder}
+use Rattle.scalar.specs.declared.Unary.the-variants as unary
+use Rattle.scalar.specs.declared.Binary.the-variants as binary
+use Rattle.scalar.specs.declared.Direction.{Direction as CompareDirection}
+use Rattle.scalar.specs.declared.Direction.the-variants.{Eq, Ne, Ge, Gt, Le, Lt}
+use Rattle.scalar.specs.declared.Body.the-variants as body
+use Rattle.ops.specs.declared.Move.the-variants as move
 use Rattle.optable.specs.declared.Takes.{Takes}
 use Rattle.optable.specs.declared.Takes.the-variants.{Any, Integer, Signed, Boolean}
 use Rattle.optable.specs.declared.Rule.{Rule}
-use Rattle.optable.specs.declared.Rule.the-variants.{SameTypes, Abs, Broadcast, Clamp, Compare, Concatenate, Constant, Convert, DynamicSlice, Iota, Pad, Reduce, Reshape, Reverse, Select, Slice, Transpose}
+use Rattle.optable.specs.declared.Rule.the-variants as rule
+use Rattle.optable.specs.declared.Class.{Class}
+use Rattle.optable.specs.declared.Class.the-variants.{Constant, Iota, Elementwise, Pairwise, Quotient, Compare, Convert, Select, Clamp, Moved, Pad, Concatenate, DynamicSlice, Reduce}
+use Rattle.optable.specs.declared.Reducer.{Reducer}
+use Rattle.optable.specs.declared.Reducer.the-variants.{Not, By}
+use Rattle.optable.specs.declared.Choice.{Choice}
+use Rattle.optable.specs.declared.Choice.the-variants as choice
 use Rattle.optable.specs.declared.Row.{Row}
 use Rattle.optable.specs.declared.Entry.{Entry}
 use Rattle.optable.specs.declared.Word.{Word}
+use Rattle.optable.specs.Names.{placeIn}
 use Rattle.scan.specs.Ascii.{ascii}
 
 -- ---- attributes and choices
@@ -67,78 +83,117 @@ attributes =
     ∷ named "compare_type" CompareType
     ∷ []
 
--- their numbers, by place
+unfoldable pub attributeNames : List (List ℕ)
+attributeNames = map (λ (a : Named). a .name) attributes
+
+-- an attribute goes by its place among them
+abbrev pub attributeNamed : String → ℕ
+attributeNamed n = placeIn attributeNames (ascii n)
+
 abbrev pub value : ℕ
-value = 0
+value = attributeNamed "value"
 
 abbrev pub iotaDimension : ℕ
-iotaDimension = 1
+iotaDimension = attributeNamed "iota_dimension"
 
 abbrev pub broadcastDimensions : ℕ
-broadcastDimensions = 2
+broadcastDimensions = attributeNamed "broadcast_dimensions"
 
 abbrev pub permutation : ℕ
-permutation = 3
+permutation = attributeNamed "permutation"
 
 abbrev pub startIndices : ℕ
-startIndices = 4
+startIndices = attributeNamed "start_indices"
 
 abbrev pub limitIndices : ℕ
-limitIndices = 5
+limitIndices = attributeNamed "limit_indices"
 
 abbrev pub strides : ℕ
-strides = 6
+strides = attributeNamed "strides"
 
 abbrev pub dimension : ℕ
-dimension = 7
+dimension = attributeNamed "dimension"
 
 abbrev pub edgePaddingLow : ℕ
-edgePaddingLow = 8
+edgePaddingLow = attributeNamed "edge_padding_low"
 
 abbrev pub edgePaddingHigh : ℕ
-edgePaddingHigh = 9
+edgePaddingHigh = attributeNamed "edge_padding_high"
 
 abbrev pub interiorPadding : ℕ
-interiorPadding = 10
+interiorPadding = attributeNamed "interior_padding"
 
 abbrev pub dimensions : ℕ
-dimensions = 11
+dimensions = attributeNamed "dimensions"
 
 abbrev pub sliceSizes : ℕ
-sliceSizes = 12
+sliceSizes = attributeNamed "slice_sizes"
 
 abbrev pub comparisonDirection : ℕ
-comparisonDirection = 13
+comparisonDirection = attributeNamed "comparison_direction"
 
 abbrev pub compareType : ℕ
-compareType = 14
+compareType = attributeNamed "compare_type"
 
--- the number of no attribute
+-- what stands for no attribute: the place past the last one
 abbrev pub noAttribute : ℕ
-noAttribute = 15
+noAttribute = length attributes
 
 -- the first words of choices, with the kind of choice that each begins
 unfoldable pub choiceKinds : List Named
 choiceKinds = named "comparison_direction" Direction ∷ named "comparison_type" CompareType ∷ []
 
+unfoldable pub choiceKindNames : List (List ℕ)
+choiceKindNames = map (λ (a : Named). a .name) choiceKinds
+
+-- a choice: its name and what it says
+pub record Chosen : Type 0 where
+  pub name : List ℕ
+  pub says : Choice
+
+abbrev chosen : String → Choice → Chosen
+chosen n c = record { name = ascii n; says = c }
+
 -- the choices that 01 leaves of 000's enums: FLOAT and TOTALORDER are refused (3)
-unfoldable pub choices : List Named
+unfoldable pub choices : List Chosen
 choices =
-    named "EQ" Direction
-    ∷ named "NE" Direction
-    ∷ named "GE" Direction
-    ∷ named "GT" Direction
-    ∷ named "LE" Direction
-    ∷ named "LT" Direction
-    ∷ named "SIGNED" CompareType
-    ∷ named "UNSIGNED" CompareType
+    chosen "EQ" (choice.Compares Eq)
+    ∷ chosen "NE" (choice.Compares Ne)
+    ∷ chosen "GE" (choice.Compares Ge)
+    ∷ chosen "GT" (choice.Compares Gt)
+    ∷ chosen "LE" (choice.Compares Le)
+    ∷ chosen "LT" (choice.Compares Lt)
+    ∷ chosen "SIGNED" choice.Signed
+    ∷ chosen "UNSIGNED" choice.Unsigned
     ∷ []
+
+unfoldable pub choiceNames : List (List ℕ)
+choiceNames = map (λ (c : Chosen). c .name) choices
+
+-- a choice goes by its place among them; the place past the last one stands for an attribute that is absent
+abbrev pub choiceNamed : String → ℕ
+choiceNamed n = placeIn choiceNames (ascii n)
+
+abbrev pub noChoice : ℕ
+noChoice = length choices
+
+-- the kind of a choice
+abbrev pub kindSaid : Choice → ℕ
+kindSaid (choice.Compares d) = Direction
+kindSaid choice.Signed = CompareType
+kindSaid choice.Unsigned = CompareType
+
+-- the comparison_direction that it says; EQ for a choice of the other kind, which is refused (7)
+abbrev pub directionSaid : Choice → CompareDirection
+directionSaid (choice.Compares d) = d
+directionSaid choice.Signed = Eq
+directionSaid choice.Unsigned = Eq
 
 -- ---- ops
 
 -- a row: the quoted name as it stands in a text; the least and the most operands; the attributes that must stand, in the order of
 -- 000's Inputs; those that may be absent; whether there is a body; what the first operand, the others and the result may be,
--- and whether the others must have rank 0; which constraints there are
+-- and whether the others must have rank 0; which constraints there are; what it computes; and the operation of a body of this op
 pub record Op : Type 0 where
   pub name : List ℕ
   pub least : ℕ
@@ -151,81 +206,84 @@ pub record Op : Type 0 where
   pub scalars : Bool
   pub result : Takes
   pub rule : Rule
+  pub class : Class
+  pub reducer : Reducer
 
-abbrev quoted : String → List ℕ
+abbrev pub quoted : String → List ℕ
 quoted n = ascii "\"stablehlo." ++ ascii n ++ ascii "\""
 
--- n operands and the result from one class, of one type: C1 is type(operands) = type(result)
-abbrev alike : String → ℕ → Takes → Op
-alike n k t =
-    record { name = quoted n; least = k; most = k; required = []; optional = []; body = false; first = t; rest = t; scalars = false; result = t; rule = SameTypes }
+-- k operands and the result from one class, of one type: C1 is type(operands) = type(result)
+abbrev alike : String → ℕ → Takes → Class → Reducer → Op
+alike n k t c b =
+    record { name = quoted n; least = k; most = k; required = []; optional = []; body = false; first = t; rest = t; scalars = false; result = t; rule = rule.SameTypes; class = c; reducer = b }
 
 -- k operands of any type, the attributes that must stand, and constraints of its own
-abbrev shaped : String → ℕ → List ℕ → Rule → Op
-shaped n k attrs r =
-    record { name = quoted n; least = k; most = k; required = attrs; optional = []; body = false; first = Any; rest = Any; scalars = false; result = Any; rule = r }
+abbrev shaped : String → ℕ → List ℕ → Rule → Class → Op
+shaped n k attrs r c =
+    record { name = quoted n; least = k; most = k; required = attrs; optional = []; body = false; first = Any; rest = Any; scalars = false; result = Any; rule = r; class = c; reducer = Not }
 
+-- "one op of add, multiply, maximum, minimum, and, or, xor" may be a reduction's body
 unfoldable pub ops : List Op
 ops =
     -- "tensor of signed integer, .. type"; C1 and C2 are one rule in two parts
-    record { name = quoted "abs"; least = 1; most = 1; required = []; optional = []; body = false; first = Signed; rest = Signed; scalars = false; result = Signed; rule = Abs }
-    ∷ alike "add" 2 Any
-    ∷ alike "and" 2 Any
-    ∷ shaped "broadcast_in_dim" 1 (broadcastDimensions ∷ []) Broadcast
-    ∷ shaped "clamp" 3 [] Clamp
+    record { name = quoted "abs"; least = 1; most = 1; required = []; optional = []; body = false; first = Signed; rest = Signed; scalars = false; result = Signed; rule = rule.Abs; class = Elementwise unary.Abs; reducer = Not }
+    ∷ alike "add" 2 Any (Pairwise binary.Add) (By body.Add)
+    ∷ alike "and" 2 Any (Pairwise binary.And) (By body.And)
+    ∷ shaped "broadcast_in_dim" 1 (broadcastDimensions ∷ []) rule.Broadcast (Moved move.BroadcastInDim)
+    ∷ shaped "clamp" 3 [] rule.Clamp Clamp
     -- result: "tensor of boolean type"; "`compare_type` of compare may be absent"
-    ∷ record { name = quoted "compare"; least = 2; most = 2; required = comparisonDirection ∷ []; optional = compareType ∷ []; body = false; first = Any; rest = Any; scalars = false; result = Boolean; rule = Compare }
+    ∷ record { name = quoted "compare"; least = 2; most = 2; required = comparisonDirection ∷ []; optional = compareType ∷ []; body = false; first = Any; rest = Any; scalars = false; result = Boolean; rule = rule.Compare; class = Compare; reducer = Not }
     -- "concatenate: any, none breaks C3"; at most 8 by size 5
-    ∷ record { name = quoted "concatenate"; least = 0; most = 8; required = dimension ∷ []; optional = []; body = false; first = Any; rest = Any; scalars = false; result = Any; rule = Concatenate }
-    ∷ shaped "constant" 0 (value ∷ []) Constant
-    ∷ shaped "convert" 1 [] Convert
-    ∷ alike "count_leading_zeros" 1 Integer
-    ∷ alike "divide" 2 Integer
+    ∷ record { name = quoted "concatenate"; least = 0; most = 8; required = dimension ∷ []; optional = []; body = false; first = Any; rest = Any; scalars = false; result = Any; rule = rule.Concatenate; class = Concatenate; reducer = Not }
+    ∷ shaped "constant" 0 (value ∷ []) rule.Constant Constant
+    ∷ shaped "convert" 1 [] rule.Convert Convert
+    ∷ alike "count_leading_zeros" 1 Integer (Elementwise unary.CountLeadingZeros) Not
+    ∷ alike "divide" 2 Integer (Quotient Divide) Not
     -- "dynamic_slice: from 1"; start_indices: "variadic number of 0-dimensional tensors of integer type"
-    ∷ record { name = quoted "dynamic_slice"; least = 1; most = 8; required = sliceSizes ∷ []; optional = []; body = false; first = Any; rest = Integer; scalars = true; result = Any; rule = DynamicSlice }
+    ∷ record { name = quoted "dynamic_slice"; least = 1; most = 8; required = sliceSizes ∷ []; optional = []; body = false; first = Any; rest = Integer; scalars = true; result = Any; rule = rule.DynamicSlice; class = DynamicSlice; reducer = Not }
     -- output: "tensor of integer, .. type"
-    ∷ record { name = quoted "iota"; least = 0; most = 0; required = iotaDimension ∷ []; optional = []; body = false; first = Any; rest = Any; scalars = false; result = Integer; rule = Iota }
-    ∷ alike "maximum" 2 Any
-    ∷ alike "minimum" 2 Any
-    ∷ alike "multiply" 2 Any
-    ∷ alike "negate" 1 Integer
-    ∷ alike "not" 1 Any
-    ∷ alike "or" 2 Any
+    ∷ record { name = quoted "iota"; least = 0; most = 0; required = iotaDimension ∷ []; optional = []; body = false; first = Any; rest = Any; scalars = false; result = Integer; rule = rule.Iota; class = Iota; reducer = Not }
+    ∷ alike "maximum" 2 Any (Pairwise binary.Maximum) (By body.Maximum)
+    ∷ alike "minimum" 2 Any (Pairwise binary.Minimum) (By body.Minimum)
+    ∷ alike "multiply" 2 Any (Pairwise binary.Multiply) (By body.Multiply)
+    ∷ alike "negate" 1 Integer (Elementwise unary.Negate) Not
+    ∷ alike "not" 1 Any (Elementwise unary.Not) Not
+    ∷ alike "or" 2 Any (Pairwise binary.Or) (By body.Or)
     -- padding_value: "0-dimensional tensor"
-    ∷ record { name = quoted "pad"; least = 2; most = 2; required = edgePaddingLow ∷ edgePaddingHigh ∷ interiorPadding ∷ []; optional = []; body = false; first = Any; rest = Any; scalars = true; result = Any; rule = Pad }
-    ∷ alike "popcnt" 1 Integer
+    ∷ record { name = quoted "pad"; least = 2; most = 2; required = edgePaddingLow ∷ edgePaddingHigh ∷ interiorPadding ∷ []; optional = []; body = false; first = Any; rest = Any; scalars = true; result = Any; rule = rule.Pad; class = Pad; reducer = Not }
+    ∷ alike "popcnt" 1 Integer (Elementwise unary.Popcnt) Not
     -- one input and one start, init_values: "0-dimensional tensors"
-    ∷ record { name = quoted "reduce"; least = 2; most = 2; required = dimensions ∷ []; optional = []; body = true; first = Any; rest = Any; scalars = true; result = Any; rule = Reduce }
-    ∷ alike "remainder" 2 Integer
-    ∷ shaped "reshape" 1 [] Reshape
-    ∷ shaped "reverse" 1 (dimensions ∷ []) Reverse
+    ∷ record { name = quoted "reduce"; least = 2; most = 2; required = dimensions ∷ []; optional = []; body = true; first = Any; rest = Any; scalars = true; result = Any; rule = rule.Reduce; class = Reduce; reducer = Not }
+    ∷ alike "remainder" 2 Integer (Quotient Remainder) Not
+    ∷ shaped "reshape" 1 [] rule.Reshape (Moved move.Reshape)
+    ∷ shaped "reverse" 1 (dimensions ∷ []) rule.Reverse (Moved move.Reverse)
     -- pred: "tensor of type `i1`"
-    ∷ record { name = quoted "select"; least = 3; most = 3; required = []; optional = []; body = false; first = Boolean; rest = Any; scalars = false; result = Any; rule = Select }
-    ∷ alike "shift_left" 2 Integer
-    ∷ alike "shift_right_arithmetic" 2 Integer
-    ∷ alike "shift_right_logical" 2 Integer
-    ∷ alike "sign" 1 Signed
-    ∷ shaped "slice" 1 (startIndices ∷ limitIndices ∷ strides ∷ []) Slice
-    ∷ alike "subtract" 2 Integer
-    ∷ shaped "transpose" 1 (permutation ∷ []) Transpose
-    ∷ alike "xor" 2 Any
+    ∷ record { name = quoted "select"; least = 3; most = 3; required = []; optional = []; body = false; first = Boolean; rest = Any; scalars = false; result = Any; rule = rule.Select; class = Select; reducer = Not }
+    ∷ alike "shift_left" 2 Integer (Pairwise binary.ShiftLeft) Not
+    ∷ alike "shift_right_arithmetic" 2 Integer (Pairwise binary.ShiftRightArithmetic) Not
+    ∷ alike "shift_right_logical" 2 Integer (Pairwise binary.ShiftRightLogical) Not
+    ∷ alike "sign" 1 Signed (Elementwise unary.Sign) Not
+    ∷ shaped "slice" 1 (startIndices ∷ limitIndices ∷ strides ∷ []) rule.Slice (Moved move.Slice)
+    ∷ alike "subtract" 2 Integer (Pairwise binary.Subtract) Not
+    ∷ shaped "transpose" 1 (permutation ∷ []) rule.Transpose (Moved move.Transpose)
+    ∷ alike "xor" 2 Any (Pairwise binary.Xor) (By body.Xor)
     ∷ []
+
+-- an op goes by its place among them
+unfoldable pub opNames : List (List ℕ)
+opNames = map (λ (o : Op). o .name) ops
+
+abbrev pub opNamed : String → ℕ
+opNamed n = placeIn opNames (quoted n)
+
+-- an op that may be the op of a reduction's body
+abbrev pub mayReduce : Reducer → Bool
+mayReduce Not = false
+mayReduce (By b) = true
 
 -- ---- the tables as the code holds them
 
 -- every name of the tables: ops, attributes, first words of choices, choices
-unfoldable pub opNames : List (List ℕ)
-opNames = map (λ (o : Op). o .name) ops
-
-unfoldable pub attributeNames : List (List ℕ)
-attributeNames = map (λ (a : Named). a .name) attributes
-
-unfoldable pub choiceKindNames : List (List ℕ)
-choiceKindNames = map (λ (a : Named). a .name) choiceKinds
-
-unfoldable pub choiceNames : List (List ℕ)
-choiceNames = map (λ (a : Named). a .name) choices
-
 unfoldable pub names : List (List ℕ)
 names = opNames ++ attributeNames ++ choiceKindNames ++ choiceNames
 
@@ -248,7 +306,7 @@ wordAt i = getD (places 0 names) i noWord
 abbrev pub rowOf : ℕ → Op → Row
 rowOf at o =
     let attrs = o .required ++ o .optional in
-    record { at = at; len = length (o .name); least = o .least; most = o .most; needed = length (o .required); a = getD attrs 0 noAttribute; b = getD attrs 1 noAttribute; c = getD attrs 2 noAttribute; body = o .body; first = o .first; rest = o .rest; scalars = o .scalars; result = o .result; rule = o .rule }
+    record { at = at; len = length (o .name); least = o .least; most = o .most; needed = length (o .required); a = getD attrs 0 noAttribute; b = getD attrs 1 noAttribute; c = getD attrs 2 noAttribute; body = o .body; first = o .first; rest = o .rest; scalars = o .scalars; result = o .result; rule = o .rule; class = o .class; reducer = o .reducer }
 
 abbrev pub rowsFrom : ℕ → List Op → List Row
 rowsFrom at [] = []
@@ -256,12 +314,12 @@ rowsFrom at (o ∷ os) = rowOf at o ∷ rowsFrom (at + length (o .name)) os
 
 -- what stands past the table's end
 abbrev pub noRow : Row
-noRow = record { at = 0; len = 0; least = 0; most = 0; needed = 0; a = 0; b = 0; c = 0; body = false; first = Any; rest = Any; scalars = false; result = Any; rule = SameTypes }
+noRow = record { at = 0; len = 0; least = 0; most = 0; needed = 0; a = 0; b = 0; c = 0; body = false; first = Any; rest = Any; scalars = false; result = Any; rule = rule.SameTypes; class = Constant; reducer = Not }
 
 unfoldable pub rowAt : ℕ → Row
 rowAt i = getD (rowsFrom 0 ops) i noRow
 
--- a row in numbers: 0 and 1 for false and true, the place of a variant for Takes and Rule
+-- a row as the code's table has it, in numbers up to its class: 0 and 1 for false and true, the place of a variant for Takes and Rule
 unfoldable pub takesCode : Takes → ℕ
 takesCode Any = 0
 takesCode Integer = 1
@@ -272,36 +330,40 @@ unfoldable pub takesOf : ℕ → Takes
 takesOf n = getD (Any ∷ Integer ∷ Signed ∷ Boolean ∷ []) n Any
 
 unfoldable pub ruleCode : Rule → ℕ
-ruleCode SameTypes = 0
-ruleCode Abs = 1
-ruleCode Broadcast = 2
-ruleCode Clamp = 3
-ruleCode Compare = 4
-ruleCode Concatenate = 5
-ruleCode Constant = 6
-ruleCode Convert = 7
-ruleCode DynamicSlice = 8
-ruleCode Iota = 9
-ruleCode Pad = 10
-ruleCode Reduce = 11
-ruleCode Reshape = 12
-ruleCode Reverse = 13
-ruleCode Select = 14
-ruleCode Slice = 15
-ruleCode Transpose = 16
+ruleCode rule.SameTypes = 0
+ruleCode rule.Abs = 1
+ruleCode rule.Broadcast = 2
+ruleCode rule.Clamp = 3
+ruleCode rule.Compare = 4
+ruleCode rule.Concatenate = 5
+ruleCode rule.Constant = 6
+ruleCode rule.Convert = 7
+ruleCode rule.DynamicSlice = 8
+ruleCode rule.Iota = 9
+ruleCode rule.Pad = 10
+ruleCode rule.Reduce = 11
+ruleCode rule.Reshape = 12
+ruleCode rule.Reverse = 13
+ruleCode rule.Select = 14
+ruleCode rule.Slice = 15
+ruleCode rule.Transpose = 16
 
 unfoldable pub ruleOf : ℕ → Rule
 ruleOf n =
     getD
-    (SameTypes ∷ Abs ∷ Broadcast ∷ Clamp ∷ Compare ∷ Concatenate ∷ Constant ∷ Convert ∷ DynamicSlice ∷ Iota ∷ Pad ∷ Reduce ∷ Reshape ∷ Reverse ∷ Select ∷ Slice ∷ Transpose ∷ [])
-    n SameTypes
+    (rule.SameTypes ∷ rule.Abs ∷ rule.Broadcast ∷ rule.Clamp ∷ rule.Compare ∷ rule.Concatenate ∷ rule.Constant ∷ rule.Convert ∷ rule.DynamicSlice ∷ rule.Iota ∷ rule.Pad ∷ rule.Reduce ∷ rule.Reshape ∷ rule.Reverse ∷ rule.Select ∷ rule.Slice ∷ rule.Transpose ∷ [])
+    n rule.SameTypes
 
 unfoldable pub bit : Bool → ℕ
 bit false = 0
 bit true = 1
 
 unfoldable pub entryOf : Row → Entry
-entryOf r = (r .at, r .len, r .least, r .most, r .needed, r .a, r .b, r .c, bit (r .body), takesCode (r .first), takesCode (r .rest), bit (r .scalars), takesCode (r .result), ruleCode (r .rule))
+entryOf r = (
+  (r .at, r .len, r .least, r .most, r .needed, r .a, r .b, r .c, bit (r .body), takesCode (r .first), takesCode (r .rest), bit (r .scalars), takesCode (r .result), ruleCode (r .rule)),
+  r .class,
+  r .reducer,
+)
 
 unfoldable pub entryAt : ℕ → Entry
 entryAt i = getD (map entryOf (rowsFrom 0 ops)) i (entryOf noRow)
@@ -310,5 +372,15 @@ entryAt i = getD (map entryOf (rowsFrom 0 ops)) i (entryOf noRow)
 unfoldable pub attributeKind : ℕ → ℕ
 attributeKind k = getD (map (λ (a : Named). a .kind) attributes) k noKind
 
+unfoldable pub choiceForm : ℕ → ℕ
+choiceForm k = getD (map (λ (a : Named). a .kind) choiceKinds) k noKind
+
+unfoldable pub saidAt : ℕ → Choice
+saidAt k = getD (map (λ (c : Chosen). c .says) choices) k (choice.Compares Eq)
+
 unfoldable pub choiceKind : ℕ → ℕ
-choiceKind k = getD (map (λ (a : Named). a .kind) choices) k noKind
+choiceKind k = pick (ltb k noChoice) (kindSaid (saidAt k)) noKind
+
+-- the comparison_direction of choice k; EQ where it is none
+unfoldable pub directionAt : ℕ → CompareDirection
+directionAt k = directionSaid (saidAt k)

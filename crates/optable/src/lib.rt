@@ -1,12 +1,19 @@
 // The op table (01, "The text": "The op table has one row per op: its name, operand count, attributes and body"), attribute names and choices.
+use division::Division;
 use element::ElementType;
+use ops::Move;
+use scalar::Binary;
+use scalar::Body;
+use scalar::Direction;
+use scalar::Unary;
 ghost use mathlib.Core.Path.{_≡_};
 ghost use mathlib.Core.Bool.{true, false, not, _||_};
 ghost use Prim.Native.Nat.{_+_, _≤_, _<_, min};
 ghost use lib.ListN.{length, getD, take, drop};
 ghost use lib.Dec.{eqb};
-ghost use Rattle.optable.specs.Table.{names, nameBytes, wordAt, noRow, rowAt, entryAt, takesOf, ruleOf, attributeKind, choiceKind};
-ghost use Rattle.optable.specs.Find.{same, placeIn, stretch, findOp, findAttribute, findChoiceKind, findChoice, slotIn};
+ghost use Rattle.optable.specs.Names.{same, placeIn};
+ghost use Rattle.optable.specs.Table.{ops, choices, names, nameBytes, wordAt, noRow, rowAt, takesOf, ruleOf, entryAt, attributeKind, choiceForm, saidAt, kindSaid, directionSaid, choiceKind, directionAt, mayReduce};
+ghost use Rattle.optable.specs.Find.{stretch, findOp, findAttribute, findChoiceKind, findChoice, slotIn};
 ghost use Rattle.optable.specs.Takes.{takes, operandTaken, resultTaken};
 
 // The element types that a table of 000 takes.
@@ -38,6 +45,37 @@ pub enum Rule {
     Transpose,
 }
 
+// What an op computes, its class for evaluation; compare's direction and reduce's body stand in the text.
+pub enum Class {
+    Constant,
+    Iota,
+    Elementwise(Unary),
+    Pairwise(Binary),
+    Quotient(Division),
+    Compare,
+    Convert,
+    Select,
+    Clamp,
+    Moved(Move),
+    Pad,
+    Concatenate,
+    DynamicSlice,
+    Reduce,
+}
+
+// Whether an op may be the op of a reduction's body, and the operation of such a body.
+pub enum Reducer {
+    Not,
+    By(Body),
+}
+
+// What a choice says: a direction of compare, or a type of comparison.
+pub enum Choice {
+    Compares(Direction),
+    Signed,
+    Unsigned,
+}
+
 // A row of the op table.
 pub struct Row {
     // Where its quoted name starts among the bytes of the names, and its length.
@@ -46,7 +84,7 @@ pub struct Row {
     // The least and the most operands.
     pub least: usize,
     pub most: usize,
-    // The numbers of its attributes, 15 for none; the first needed of them must stand, the others may be absent.
+    // The numbers of its attributes, Attributes::NONE for none; the first needed of them must stand, the others may be absent.
     pub needed: usize,
     pub a: usize,
     pub b: usize,
@@ -60,6 +98,10 @@ pub struct Row {
     pub result: Takes,
     // Its constraints.
     pub rule: Rule,
+    // What it computes.
+    pub class: Class,
+    // Whether it may be the op of a reduction's body.
+    pub reducer: Reducer,
 }
 
 // Where a name starts among the bytes of the names, and its length.
@@ -81,6 +123,68 @@ impl Kinds {
     pub const DIRECTION: usize = 4;
 
     pub const COMPARE_TYPE: usize = 5;
+}
+
+// The ops of the table.
+pub struct Ops {}
+
+impl Ops {
+    pub const COUNT: usize = 34;
+}
+
+// The attributes by their places; the place past the last one stands for none.
+pub struct Attributes {}
+
+impl Attributes {
+    pub const VALUE: usize = 0;
+
+    pub const IOTA_DIMENSION: usize = 1;
+
+    pub const BROADCAST_DIMENSIONS: usize = 2;
+
+    pub const PERMUTATION: usize = 3;
+
+    pub const START_INDICES: usize = 4;
+
+    pub const LIMIT_INDICES: usize = 5;
+
+    pub const STRIDES: usize = 6;
+
+    pub const DIMENSION: usize = 7;
+
+    pub const EDGE_PADDING_LOW: usize = 8;
+
+    pub const EDGE_PADDING_HIGH: usize = 9;
+
+    pub const INTERIOR_PADDING: usize = 10;
+
+    pub const DIMENSIONS: usize = 11;
+
+    pub const SLICE_SIZES: usize = 12;
+
+    pub const COMPARISON_DIRECTION: usize = 13;
+
+    pub const COMPARE_TYPE: usize = 14;
+
+    pub const NONE: usize = 15;
+}
+
+// The first words of choices; the place past the last one stands for none.
+pub struct ChoiceKinds {}
+
+impl ChoiceKinds {
+    pub const NONE: usize = 2;
+}
+
+// The choices by their places; the place past the last one stands for none, or for an attribute that is absent.
+pub struct Choices {}
+
+impl Choices {
+    pub const SIGNED: usize = 6;
+
+    pub const UNSIGNED: usize = 7;
+
+    pub const NONE: usize = 8;
 }
 
 // The names, one after the other: ops, attributes, first words of choices, choices.
@@ -120,8 +224,8 @@ const RULES: [Rule; 17] = [
     Rule::Transpose,
 ];
 
-// A row as it stands in the table: the fields of Row in their order, as numbers.
-struct Entry(
+// The fields of Row from at to rule, in their order, as numbers: 0 and 1 for false and true.
+struct Counts(
     usize,
     usize,
     usize,
@@ -138,42 +242,217 @@ struct Entry(
     usize,
 );
 
+// A row as it stands in the table.
+struct Entry(Counts, Class, Reducer);
+
+const NONE: usize = Attributes::NONE;
+
+// at, len, least, most, needed, a, b, c, body, first, rest, scalars, result, rule; class; reducer
 const OPS: [Entry; 34] = [
-    // at, len, least, most, needed, a, b, c, body, first, rest, scalars, result, rule
-    Entry(0, 15, 1, 1, 0, 15, 15, 15, 0, 2, 2, 0, 2, 1), // abs
-    Entry(15, 15, 2, 2, 0, 15, 15, 15, 0, 0, 0, 0, 0, 0), // add
-    Entry(30, 15, 2, 2, 0, 15, 15, 15, 0, 0, 0, 0, 0, 0), // and
-    Entry(45, 28, 1, 1, 1, 2, 15, 15, 0, 0, 0, 0, 0, 2), // broadcast_in_dim
-    Entry(73, 17, 3, 3, 0, 15, 15, 15, 0, 0, 0, 0, 0, 3), // clamp
-    Entry(90, 19, 2, 2, 1, 13, 14, 15, 0, 0, 0, 0, 3, 4), // compare
-    Entry(109, 23, 0, 8, 1, 7, 15, 15, 0, 0, 0, 0, 0, 5), // concatenate
-    Entry(132, 20, 0, 0, 1, 0, 15, 15, 0, 0, 0, 0, 0, 6), // constant
-    Entry(152, 19, 1, 1, 0, 15, 15, 15, 0, 0, 0, 0, 0, 7), // convert
-    Entry(171, 31, 1, 1, 0, 15, 15, 15, 0, 1, 1, 0, 1, 0), // count_leading_zeros
-    Entry(202, 18, 2, 2, 0, 15, 15, 15, 0, 1, 1, 0, 1, 0), // divide
-    Entry(220, 25, 1, 8, 1, 12, 15, 15, 0, 0, 1, 1, 0, 8), // dynamic_slice
-    Entry(245, 16, 0, 0, 1, 1, 15, 15, 0, 0, 0, 0, 1, 9), // iota
-    Entry(261, 19, 2, 2, 0, 15, 15, 15, 0, 0, 0, 0, 0, 0), // maximum
-    Entry(280, 19, 2, 2, 0, 15, 15, 15, 0, 0, 0, 0, 0, 0), // minimum
-    Entry(299, 20, 2, 2, 0, 15, 15, 15, 0, 0, 0, 0, 0, 0), // multiply
-    Entry(319, 18, 1, 1, 0, 15, 15, 15, 0, 1, 1, 0, 1, 0), // negate
-    Entry(337, 15, 1, 1, 0, 15, 15, 15, 0, 0, 0, 0, 0, 0), // not
-    Entry(352, 14, 2, 2, 0, 15, 15, 15, 0, 0, 0, 0, 0, 0), // or
-    Entry(366, 15, 2, 2, 3, 8, 9, 10, 0, 0, 0, 1, 0, 10), // pad
-    Entry(381, 18, 1, 1, 0, 15, 15, 15, 0, 1, 1, 0, 1, 0), // popcnt
-    Entry(399, 18, 2, 2, 1, 11, 15, 15, 1, 0, 0, 1, 0, 11), // reduce
-    Entry(417, 21, 2, 2, 0, 15, 15, 15, 0, 1, 1, 0, 1, 0), // remainder
-    Entry(438, 19, 1, 1, 0, 15, 15, 15, 0, 0, 0, 0, 0, 12), // reshape
-    Entry(457, 19, 1, 1, 1, 11, 15, 15, 0, 0, 0, 0, 0, 13), // reverse
-    Entry(476, 18, 3, 3, 0, 15, 15, 15, 0, 3, 0, 0, 0, 14), // select
-    Entry(494, 22, 2, 2, 0, 15, 15, 15, 0, 1, 1, 0, 1, 0), // shift_left
-    Entry(516, 34, 2, 2, 0, 15, 15, 15, 0, 1, 1, 0, 1, 0), // shift_right_arithmetic
-    Entry(550, 31, 2, 2, 0, 15, 15, 15, 0, 1, 1, 0, 1, 0), // shift_right_logical
-    Entry(581, 16, 1, 1, 0, 15, 15, 15, 0, 2, 2, 0, 2, 0), // sign
-    Entry(597, 17, 1, 1, 3, 4, 5, 6, 0, 0, 0, 0, 0, 15), // slice
-    Entry(614, 20, 2, 2, 0, 15, 15, 15, 0, 1, 1, 0, 1, 0), // subtract
-    Entry(634, 21, 1, 1, 1, 3, 15, 15, 0, 0, 0, 0, 0, 16), // transpose
-    Entry(655, 15, 2, 2, 0, 15, 15, 15, 0, 0, 0, 0, 0, 0), // xor
+    // abs
+    Entry(
+        Counts(0, 15, 1, 1, 0, NONE, NONE, NONE, 0, 2, 2, 0, 2, 1),
+        Class::Elementwise(Unary::Abs),
+        Reducer::Not,
+    ),
+    // add
+    Entry(
+        Counts(15, 15, 2, 2, 0, NONE, NONE, NONE, 0, 0, 0, 0, 0, 0),
+        Class::Pairwise(Binary::Add),
+        Reducer::By(Body::Add),
+    ),
+    // and
+    Entry(
+        Counts(30, 15, 2, 2, 0, NONE, NONE, NONE, 0, 0, 0, 0, 0, 0),
+        Class::Pairwise(Binary::And),
+        Reducer::By(Body::And),
+    ),
+    // broadcast_in_dim
+    Entry(
+        Counts(45, 28, 1, 1, 1, 2, NONE, NONE, 0, 0, 0, 0, 0, 2),
+        Class::Moved(Move::BroadcastInDim),
+        Reducer::Not,
+    ),
+    // clamp
+    Entry(
+        Counts(73, 17, 3, 3, 0, NONE, NONE, NONE, 0, 0, 0, 0, 0, 3),
+        Class::Clamp,
+        Reducer::Not,
+    ),
+    // compare
+    Entry(
+        Counts(90, 19, 2, 2, 1, 13, 14, NONE, 0, 0, 0, 0, 3, 4),
+        Class::Compare,
+        Reducer::Not,
+    ),
+    // concatenate
+    Entry(
+        Counts(109, 23, 0, 8, 1, 7, NONE, NONE, 0, 0, 0, 0, 0, 5),
+        Class::Concatenate,
+        Reducer::Not,
+    ),
+    // constant
+    Entry(
+        Counts(132, 20, 0, 0, 1, 0, NONE, NONE, 0, 0, 0, 0, 0, 6),
+        Class::Constant,
+        Reducer::Not,
+    ),
+    // convert
+    Entry(
+        Counts(152, 19, 1, 1, 0, NONE, NONE, NONE, 0, 0, 0, 0, 0, 7),
+        Class::Convert,
+        Reducer::Not,
+    ),
+    // count_leading_zeros
+    Entry(
+        Counts(171, 31, 1, 1, 0, NONE, NONE, NONE, 0, 1, 1, 0, 1, 0),
+        Class::Elementwise(Unary::CountLeadingZeros),
+        Reducer::Not,
+    ),
+    // divide
+    Entry(
+        Counts(202, 18, 2, 2, 0, NONE, NONE, NONE, 0, 1, 1, 0, 1, 0),
+        Class::Quotient(Division::Divide),
+        Reducer::Not,
+    ),
+    // dynamic_slice
+    Entry(
+        Counts(220, 25, 1, 8, 1, 12, NONE, NONE, 0, 0, 1, 1, 0, 8),
+        Class::DynamicSlice,
+        Reducer::Not,
+    ),
+    // iota
+    Entry(
+        Counts(245, 16, 0, 0, 1, 1, NONE, NONE, 0, 0, 0, 0, 1, 9),
+        Class::Iota,
+        Reducer::Not,
+    ),
+    // maximum
+    Entry(
+        Counts(261, 19, 2, 2, 0, NONE, NONE, NONE, 0, 0, 0, 0, 0, 0),
+        Class::Pairwise(Binary::Maximum),
+        Reducer::By(Body::Maximum),
+    ),
+    // minimum
+    Entry(
+        Counts(280, 19, 2, 2, 0, NONE, NONE, NONE, 0, 0, 0, 0, 0, 0),
+        Class::Pairwise(Binary::Minimum),
+        Reducer::By(Body::Minimum),
+    ),
+    // multiply
+    Entry(
+        Counts(299, 20, 2, 2, 0, NONE, NONE, NONE, 0, 0, 0, 0, 0, 0),
+        Class::Pairwise(Binary::Multiply),
+        Reducer::By(Body::Multiply),
+    ),
+    // negate
+    Entry(
+        Counts(319, 18, 1, 1, 0, NONE, NONE, NONE, 0, 1, 1, 0, 1, 0),
+        Class::Elementwise(Unary::Negate),
+        Reducer::Not,
+    ),
+    // not
+    Entry(
+        Counts(337, 15, 1, 1, 0, NONE, NONE, NONE, 0, 0, 0, 0, 0, 0),
+        Class::Elementwise(Unary::Not),
+        Reducer::Not,
+    ),
+    // or
+    Entry(
+        Counts(352, 14, 2, 2, 0, NONE, NONE, NONE, 0, 0, 0, 0, 0, 0),
+        Class::Pairwise(Binary::Or),
+        Reducer::By(Body::Or),
+    ),
+    // pad
+    Entry(
+        Counts(366, 15, 2, 2, 3, 8, 9, 10, 0, 0, 0, 1, 0, 10),
+        Class::Pad,
+        Reducer::Not,
+    ),
+    // popcnt
+    Entry(
+        Counts(381, 18, 1, 1, 0, NONE, NONE, NONE, 0, 1, 1, 0, 1, 0),
+        Class::Elementwise(Unary::Popcnt),
+        Reducer::Not,
+    ),
+    // reduce
+    Entry(
+        Counts(399, 18, 2, 2, 1, 11, NONE, NONE, 1, 0, 0, 1, 0, 11),
+        Class::Reduce,
+        Reducer::Not,
+    ),
+    // remainder
+    Entry(
+        Counts(417, 21, 2, 2, 0, NONE, NONE, NONE, 0, 1, 1, 0, 1, 0),
+        Class::Quotient(Division::Remainder),
+        Reducer::Not,
+    ),
+    // reshape
+    Entry(
+        Counts(438, 19, 1, 1, 0, NONE, NONE, NONE, 0, 0, 0, 0, 0, 12),
+        Class::Moved(Move::Reshape),
+        Reducer::Not,
+    ),
+    // reverse
+    Entry(
+        Counts(457, 19, 1, 1, 1, 11, NONE, NONE, 0, 0, 0, 0, 0, 13),
+        Class::Moved(Move::Reverse),
+        Reducer::Not,
+    ),
+    // select
+    Entry(
+        Counts(476, 18, 3, 3, 0, NONE, NONE, NONE, 0, 3, 0, 0, 0, 14),
+        Class::Select,
+        Reducer::Not,
+    ),
+    // shift_left
+    Entry(
+        Counts(494, 22, 2, 2, 0, NONE, NONE, NONE, 0, 1, 1, 0, 1, 0),
+        Class::Pairwise(Binary::ShiftLeft),
+        Reducer::Not,
+    ),
+    // shift_right_arithmetic
+    Entry(
+        Counts(516, 34, 2, 2, 0, NONE, NONE, NONE, 0, 1, 1, 0, 1, 0),
+        Class::Pairwise(Binary::ShiftRightArithmetic),
+        Reducer::Not,
+    ),
+    // shift_right_logical
+    Entry(
+        Counts(550, 31, 2, 2, 0, NONE, NONE, NONE, 0, 1, 1, 0, 1, 0),
+        Class::Pairwise(Binary::ShiftRightLogical),
+        Reducer::Not,
+    ),
+    // sign
+    Entry(
+        Counts(581, 16, 1, 1, 0, NONE, NONE, NONE, 0, 2, 2, 0, 2, 0),
+        Class::Elementwise(Unary::Sign),
+        Reducer::Not,
+    ),
+    // slice
+    Entry(
+        Counts(597, 17, 1, 1, 3, 4, 5, 6, 0, 0, 0, 0, 0, 15),
+        Class::Moved(Move::Slice),
+        Reducer::Not,
+    ),
+    // subtract
+    Entry(
+        Counts(614, 20, 2, 2, 0, NONE, NONE, NONE, 0, 1, 1, 0, 1, 0),
+        Class::Pairwise(Binary::Subtract),
+        Reducer::Not,
+    ),
+    // transpose
+    Entry(
+        Counts(634, 21, 1, 1, 1, 3, NONE, NONE, 0, 0, 0, 0, 0, 16),
+        Class::Moved(Move::Transpose),
+        Reducer::Not,
+    ),
+    // xor
+    Entry(
+        Counts(655, 15, 2, 2, 0, NONE, NONE, NONE, 0, 0, 0, 0, 0, 0),
+        Class::Pairwise(Binary::Xor),
+        Reducer::By(Body::Xor),
+    ),
 ];
 
 // The places of the names of attributes, first words of choices and choices.
@@ -205,13 +484,26 @@ const OTHERS: [Word; 25] = [
     Word { at: 917, len: 8 }, // UNSIGNED
 ];
 
+// The kinds of the attributes and of the first words of choices.
 const ATTRIBUTE_KINDS: [usize; 15] = [3, 2, 1, 1, 1, 1, 1, 2, 1, 1, 1, 1, 1, 4, 5];
 
-const CHOICE_KINDS: [usize; 8] = [4, 4, 4, 4, 4, 4, 5, 5];
+const CHOICE_KINDS: [usize; 2] = [4, 5];
+
+// What the choices say.
+const CHOICES: [Choice; 8] = [
+    Choice::Compares(Direction::Eq),
+    Choice::Compares(Direction::Ne),
+    Choice::Compares(Direction::Ge),
+    Choice::Compares(Direction::Gt),
+    Choice::Compares(Direction::Le),
+    Choice::Compares(Direction::Lt),
+    Choice::Signed,
+    Choice::Unsigned,
+];
 
 // The table's row i.
 fn entry_at(i: usize) -> Entry
-    requires { ⌜ i < 34 ⌝ }
+    requires { ⌜ i < length ops ⌝ }
     ensures { λ r. ⌜ r ≡ entryAt i ⌝ }
 {
     OPS[i]
@@ -250,6 +542,8 @@ fn no_row() -> Row
         scalars: false,
         result: Takes::Any,
         rule: Rule::SameTypes,
+        class: Class::Constant,
+        reducer: Reducer::Not,
     }
 }
 
@@ -257,27 +551,32 @@ fn no_row() -> Row
 pub fn op_row(i: usize) -> Row
     ensures { λ r. ⌜ r ≡ rowAt i ⌝ }
 {
-    if i < 34 {
+    if i < Ops::COUNT {
         let e = entry_at(i);
-        let first = takes_of(e.9);
-        let rest = takes_of(e.10);
-        let result = takes_of(e.12);
-        let rule = rule_of(e.13);
+        let n = e.0;
+        let first = takes_of(n.9);
+        let rest = takes_of(n.10);
+        let result = takes_of(n.12);
+        let rule = rule_of(n.13);
+        let class = e.1;
+        let reducer = e.2;
         return Row {
-            at: e.0,
-            len: e.1,
-            least: e.2,
-            most: e.3,
-            needed: e.4,
-            a: e.5,
-            b: e.6,
-            c: e.7,
-            body: e.8 == 1,
+            at: n.0,
+            len: n.1,
+            least: n.2,
+            most: n.3,
+            needed: n.4,
+            a: n.5,
+            b: n.6,
+            c: n.7,
+            body: n.8 == 1,
             first,
             rest,
-            scalars: e.11 == 1,
+            scalars: n.11 == 1,
             result,
             rule,
+            class,
+            reducer,
         };
     }
     no_row()
@@ -285,37 +584,37 @@ pub fn op_row(i: usize) -> Row
 
 // A byte of the names.
 fn name_byte(i: usize) -> u8
-    requires { ⌜ i < 925 ⌝ }
+    requires { ⌜ i < length nameBytes ⌝ }
     ensures { λ r. ⌜ r ≡ getD nameBytes i 0 ⌝ }
 {
     NAMES[i]
 }
 
 fn other_at(i: usize) -> Word
-    requires { ⌜ i < 25 ⌝ }
-    ensures { λ r. ⌜ r ≡ wordAt (34 + i) ⌝ }
+    requires { ⌜ length ops + i < length names ⌝ }
+    ensures { λ r. ⌜ r ≡ wordAt (length ops + i) ⌝ }
 {
     OTHERS[i]
 }
 
 // The place of name i: the ops' names, then the others.
 pub fn word_at(i: usize) -> Word
-    requires { ⌜ i < 59 ⌝ }
+    requires { ⌜ i < length names ⌝ }
     ensures { λ r. ⌜ r ≡ wordAt i ⌝ }
 {
-    if i < 34 {
+    if i < Ops::COUNT {
         let r = op_row(i);
         return Word {
             at: r.at,
             len: r.len,
         };
     }
-    other_at(i - 34)
+    other_at(i - Ops::COUNT)
 }
 
 // The bytes are those of the names from at on.
 fn word_is(bytes: &[u8], at: usize, len: usize) -> bool
-    requires { ⌜ at + len ≤ 925 ⌝ }
+    requires { ⌜ at + len ≤ length nameBytes ⌝ }
     ensures { λ r. ⌜ r ≡ same (take len (drop at nameBytes)) (now (bytes .entry)) ⌝ }
 {
     if bytes.len() != len {
@@ -333,7 +632,7 @@ fn word_is(bytes: &[u8], at: usize, len: usize) -> bool
 
 // The place of the bytes among count names from first on.
 fn place_of(bytes: &[u8], first: usize, count: usize) -> usize
-    requires { ⌜ first + count ≤ 59 ⌝ }
+    requires { ⌜ first + count ≤ length names ⌝ }
     ensures { λ r. ⌜ r ≡ placeIn (take count (drop first names)) (now (bytes .entry)) ⌝ }
 {
     let mut k = 0;
@@ -349,7 +648,7 @@ fn place_of(bytes: &[u8], first: usize, count: usize) -> usize
 
 // The same, of the bytes of the text from start up to end.
 fn find(text: &[u8], start: usize, end: usize, first: usize, count: usize) -> usize
-    requires { ⌜ first + count ≤ 59 ⌝ }
+    requires { ⌜ first + count ≤ length names ⌝ }
     ensures { λ r. ⌜ r ≡ placeIn (take count (drop first names)) (stretch (now (text .entry)) start end) ⌝ }
 {
     let stop = least_of(end, text.len());
@@ -365,52 +664,112 @@ fn least_of(a: usize, b: usize) -> usize
     if a < b { a } else { b }
 }
 
-// The op whose quoted name stands in the text from start up to end; 34: none.
+// The op whose quoted name stands in the text from start up to end; Ops::COUNT: none.
 pub fn find_op(text: &[u8], start: usize, end: usize) -> usize
     ensures { λ r. ⌜ r ≡ findOp (now (text .entry)) start end ⌝ }
 {
-    find(text, start, end, 0, 34)
+    find(text, start, end, 0, Ops::COUNT)
 }
 
-// The attribute; 15: none.
+// The attribute; Attributes::NONE: none.
 pub fn find_attribute(text: &[u8], start: usize, end: usize) -> usize
     ensures { λ r. ⌜ r ≡ findAttribute (now (text .entry)) start end ⌝ }
 {
-    find(text, start, end, 34, 15)
+    find(text, start, end, Ops::COUNT, Attributes::NONE)
 }
 
-// The first word of a choice: comparison_direction, comparison_type, of the kinds from DIRECTION on; 2: none.
+// The first word of a choice: comparison_direction, comparison_type; ChoiceKinds::NONE: none.
 pub fn find_choice_kind(text: &[u8], start: usize, end: usize) -> usize
     ensures { λ r. ⌜ r ≡ findChoiceKind (now (text .entry)) start end ⌝ }
 {
-    find(text, start, end, 49, 2)
+    let first = Ops::COUNT + Attributes::NONE;
+    find(text, start, end, first, ChoiceKinds::NONE)
 }
 
-// The choice: EQ, NE, GE, GT, LE, LT, SIGNED, UNSIGNED; 8: none.
+// The choice: EQ, NE, GE, GT, LE, LT, SIGNED, UNSIGNED; Choices::NONE: none.
 pub fn find_choice(text: &[u8], start: usize, end: usize) -> usize
     ensures { λ r. ⌜ r ≡ findChoice (now (text .entry)) start end ⌝ }
 {
-    find(text, start, end, 51, 8)
+    let first = Ops::COUNT + Attributes::NONE + ChoiceKinds::NONE;
+    find(text, start, end, first, Choices::NONE)
 }
 
 // The kind of attribute k; 0: no attribute.
 pub fn attribute_kind(k: usize) -> usize
     ensures { λ r. ⌜ r ≡ attributeKind k ⌝ }
 {
-    if k < 15 {
+    if k < Attributes::NONE {
         return ATTRIBUTE_KINDS[k];
     }
     0
+}
+
+// The kind of the choices that first word k begins; 0: no such word.
+pub fn choice_form(k: usize) -> usize
+    ensures { λ r. ⌜ r ≡ choiceForm k ⌝ }
+{
+    if k < ChoiceKinds::NONE {
+        return CHOICE_KINDS[k];
+    }
+    0
+}
+
+// What choice k says.
+fn said_at(k: usize) -> Choice
+    requires { ⌜ k < length choices ⌝ }
+    ensures { λ r. ⌜ r ≡ saidAt k ⌝ }
+{
+    CHOICES[k]
+}
+
+fn kind_said(c: Choice) -> usize
+    ensures { λ r. ⌜ r ≡ kindSaid c ⌝ }
+{
+    match c {
+        Choice::Compares(_) => Kinds::DIRECTION,
+        Choice::Signed => Kinds::COMPARE_TYPE,
+        Choice::Unsigned => Kinds::COMPARE_TYPE,
+    }
+}
+
+fn direction_said(c: Choice) -> Direction
+    ensures { λ r. ⌜ r ≡ directionSaid c ⌝ }
+{
+    match c {
+        Choice::Compares(d) => d,
+        Choice::Signed => Direction::Eq,
+        Choice::Unsigned => Direction::Eq,
+    }
 }
 
 // The kind of choice k; 0: no choice.
 pub fn choice_kind(k: usize) -> usize
     ensures { λ r. ⌜ r ≡ choiceKind k ⌝ }
 {
-    if k < 8 {
-        return CHOICE_KINDS[k];
+    if k < Choices::NONE {
+        return kind_said(said_at(k));
     }
     0
+}
+
+// The comparison_direction of choice k; EQ where it is none.
+pub fn direction_at(k: usize) -> Direction
+    ensures { λ r. ⌜ r ≡ directionAt k ⌝ }
+{
+    if k < Choices::NONE {
+        return direction_said(said_at(k));
+    }
+    Direction::Eq
+}
+
+// Whether an op may be the op of a reduction's body.
+pub fn may_reduce(r: Reducer) -> bool
+    ensures { λ b. ⌜ b ≡ mayReduce r ⌝ }
+{
+    match r {
+        Reducer::Not => false,
+        Reducer::By(_) => true,
+    }
 }
 
 // The place of attribute k among those of the row; 3: it is foreign to the op.

@@ -14,6 +14,8 @@ use Rattle.dimrules.specs.Types.{sameElement, sameShape, sameType, sameButOne, 
 use Rattle.dimrules.specs.declared.TensorType.{TensorType}
 use Rattle.dimrules.specs.declared.Numbers.{Numbers}
 use Rattle.rules.specs.Broken.{firstBroken}
+use Rattle.optable.specs.Names.{same, placeIn}
+use Rattle.optable.specs.Table.{choices, choiceNames}
 use Rattle.rules.specs.Constraints.{compareTypeIs, SIGNED, UNSIGNED, absent, sameTypesConstraints, absConstraints, iotaConstraints, reshapeConstraints, compareConstraints, selectConstraints, clampConstraints, reverseConstraints, transposeConstraints, broadcastConstraints, sliceConstraints, padConstraints, concatenateConstraints, dynamicSliceConstraints, reduceConstraints}
 
 abbrev tensor : ElementType → List ℕ → TensorType
@@ -62,7 +64,7 @@ compared : ElementType → ℕ → ℕ
 compared e choice = firstBroken (compareConstraints (tensor e []) (tensor e []) choice (tensor I1 []))
 
 comparisons : (compared I1 SIGNED ≡ 3) × (compared I1 UNSIGNED ≡ 0) × (compared I8 SIGNED ≡ 0) × (compared I8 UNSIGNED ≡ 3) × (compared U8 absent ≡ 0)
-unfolding compared compareConstraints compareTypeIs everywhere firstFailing firstWhere dimTest sameElement sameShape
+unfolding compared compareConstraints compareTypeIs everywhere firstFailing firstWhere dimTest sameElement sameShape choices choiceNames placeIn same
 comparisons = (refl, refl, refl, refl, refl)
 
 -- transpose of 2x3x4 by [1, 2, 0] is 3x4x2, not 4x2x3 (the inverse); not a permutation; unlike length; rank 0 (OP-85)

@@ -8,6 +8,7 @@ use lib.Dec.{ltb, eqb}
 use Rattle.lists.specs.Lists.{pick}
 use Rattle.element.specs.Types.{signedOf}
 use Rattle.element.specs.declared.ElementType.{ElementType}
+use Rattle.optable.specs.Table.{choiceNamed, noChoice}
 use Rattle.shape.specs.Index.{size}
 use Rattle.shape.specs.Dims.{dimsOf}
 use Rattle.dimrules.specs.Count.{everywhere}
@@ -49,15 +50,15 @@ iotaConstraints iotaDimension r = below iotaDimension (r .shape .rank) ∷ []
 unfoldable pub reshapeConstraints : TensorType → TensorType → List Bool
 reshapeConstraints x r = sameElement x r ∷ eqb (size (dimsOf (x .shape))) (size (dimsOf (r .shape))) ∷ []
 
--- the choices SIGNED and UNSIGNED of the op table; where compare_type is absent, the number of choices
+-- the choices SIGNED and UNSIGNED of the op table; where compare_type is absent, no choice
 abbrev pub SIGNED : ℕ
-SIGNED = 6
+SIGNED = choiceNamed "SIGNED"
 
 abbrev pub UNSIGNED : ℕ
-UNSIGNED = 7
+UNSIGNED = choiceNamed "UNSIGNED"
 
 abbrev pub absent : ℕ
-absent = 8
+absent = noChoice
 
 -- 01: "if present it is SIGNED for signed types and UNSIGNED for the others"
 unfoldable pub compareTypeIs : ℕ → ElementType → Bool

@@ -19,6 +19,7 @@ use dimrules::same_type;
 use dimrules::sum_dims;
 use element::ElementType;
 use limits::Limits;
+use optable::Choices;
 ghost use mathlib.Core.Path.{_≡_};
 ghost use mathlib.Core.Bool.{true, _&&_};
 ghost use Prim.Native.Nat.{_≤_};
@@ -117,17 +118,17 @@ pub fn reshape_broken(x: TensorType, r: TensorType) -> usize
     first_broken([c1, c2, true, true, true, true, true, true])
 }
 
-// compare_type is absent (8), or SIGNED (6) for signed types and UNSIGNED (7) for the others.
+// compare_type is absent, or SIGNED for signed types and UNSIGNED for the others.
 fn compare_type_is(choice: usize, e: ElementType) -> bool
     ensures { λ r. ⌜ r ≡ compareTypeIs choice e ⌝ }
 {
-    if choice == 8 {
+    if choice == Choices::NONE {
         return true;
     }
     if e.is_signed() {
-        choice == 6
+        choice == Choices::SIGNED
     } else {
-        choice == 7
+        choice == Choices::UNSIGNED
     }
 }
 

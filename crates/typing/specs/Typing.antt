@@ -4,8 +4,9 @@ use Prim.Native.Nat.{ℕ}
 use mathlib.Core.List.{List}
 use mathlib.Core.Bool.{Bool, true, _&&_}
 use lib.Dec.{ltb, eqb}
+use lib.ListN.{length}
 use Rattle.lists.specs.Lists.{pick, tab}
-use Rattle.optable.specs.Table.{value, compareType, rowAt}
+use Rattle.optable.specs.Table.{value, compareType, ops, rowAt}
 use Rattle.optable.specs.declared.Row.{Row}
 use Rattle.program.specs.declared.Parts.{Parts}
 use Rattle.dimrules.specs.declared.TensorType.{TensorType}
@@ -59,7 +60,7 @@ bodiesFit text op row = eqb (countOf op bodyOpen) (pick (row .body) 1 0) && pick
 
 -- an op of the op table (reading has refused every other name)
 unfoldable pub inTable : List ℕ → Parts → Bool
-inTable text op = ltb (rowNamed text (placeOf op opName 0)) 34
+inTable text op = ltb (rowNamed text (placeOf op opName 0)) (length ops)
 
 -- none of the reasons of refusal 7 holds of an op
 unfoldable pub typedOp : List ℕ → Parts → Row → List Value → ℕ → Bool

@@ -10,6 +10,8 @@ use opcheck::broken_by;
 use opcheck::taken_by_tables;
 use operands::arity_of;
 use operands::operands_typed;
+use optable::Attributes;
+use optable::Ops;
 use optable::Row;
 use optable::op_row;
 use places::Part;
@@ -83,8 +85,8 @@ pub fn operation_of(text: &[u8], op: Parts, row: Row) -> Operation
     let a = attributes::numbers_of(text, op, row.a);
     let b = attributes::numbers_of(text, op, row.b);
     let c = attributes::numbers_of(text, op, row.c);
-    let choice = attributes::choice_of(text, op, 14);
-    let value = attributes::dense_type(text, op, 0);
+    let choice = attributes::choice_of(text, op, Attributes::COMPARE_TYPE);
+    let value = attributes::dense_type(text, op, Attributes::VALUE);
     let left = body_type(text, op, row, 0);
     let right = body_type(text, op, row, 1);
     Operation {
@@ -125,7 +127,7 @@ fn bodies_fit(text: &[u8], op: Parts, row: Row) -> bool
 fn in_table(text: &[u8], op: Parts) -> bool
     ensures { λ r. ⌜ r ≡ inTable (now (text .entry)) op ⌝ }
 {
-    row_named(text, place_of(op, Part::OP_NAME, 0)) < 34
+    row_named(text, place_of(op, Part::OP_NAME, 0)) < Ops::COUNT
 }
 
 fn typed_op(text: &[u8], op: Parts, row: Row, o: Operation, values: Values, n: usize) -> bool

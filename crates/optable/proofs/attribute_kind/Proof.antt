@@ -10,6 +10,7 @@ unfolding attributeKind attributes
 returns c = refl
 
 returns-2 : tie.Need-returns-2
+unfolding attributes
 returns-2 c = sym (attribute-past _ (c .if1 .left))
 
 pub attribute-kind-spec : {M : Type 1} → statement M

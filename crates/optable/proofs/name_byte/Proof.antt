@@ -1,7 +1,7 @@
 use mathlib.Core.Path.{refl}
 use Rattle.lists.specs.Lists.{concat}
 use Rattle.optable.specs.Table.{nameBytes, names, opNames, attributeNames, choiceKindNames, choiceNames, ops, attributes, choiceKinds, choices}
-use borrow.Author.Needs.{needs}
+use Rattle.optable.proofs.TableLaw.{bytes-length}
 use Rattle.optable.proofs.name_byte.Statement.{statement}
 use Rattle.optable.proofs.name_byte.Tie as tie
 
@@ -10,4 +10,4 @@ unfolding nameBytes names opNames attributeNames choiceKindNames choiceNames ops
 returns c = refl
 
 pub name-byte-spec : {M : Type 1} → statement M
-name-byte-spec = tie.close (tie.spec (λ c. search needs) returns)
+name-byte-spec = tie.close (tie.spec (λ c. rw bytes-length at (c .pre)) returns)

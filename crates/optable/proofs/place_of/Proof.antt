@@ -1,5 +1,5 @@
 use Rattle.optable.proofs.ScanLaw.{name-here, name-next, name-none}
-use Rattle.optable.proofs.TableLaw.{word-within}
+use Rattle.optable.proofs.TableLaw.{names-length, word-within}
 use native.Mathlib.Nat.{zero-add}
 use borrow.Author.Needs.{needs}
 use mathlib.Core.Path.{_≡_}
@@ -33,5 +33,5 @@ returns-2 c = name-none _ _ _ (c .before .before .before .pre) _ (c .before .loo
 
 pub place-of-spec : {M : Type 1} → statement M
 place-of-spec =
-    tie.close (tie.spec Inv-loop μ-loop loop-holds (λ c. search needs) (λ c κs. search needs) word-is-requires returns (λ c. search needs)
+    tie.close (tie.spec Inv-loop μ-loop loop-holds (λ c. search (needs, names-length)) (λ c κs. search (needs, names-length)) word-is-requires returns (λ c. search needs)
     (λ c. search needs) loop-again returns-2)

@@ -1,4 +1,5 @@
 use Rattle.optable.proofs.ScanLaw.{lengths-differ, byte-differs, byte-same, bytes-same}
+use Rattle.optable.proofs.TableLaw.{bytes-length}
 use borrow.Author.Needs.{needs}
 use mathlib.Core.Path.{_≡_, refl}
 use Prim.Native.Nat.{_≤_, _-_}
@@ -31,5 +32,5 @@ returns-3 c = bytes-same _ _ _ (c .before .before .before .before .pre) (c .befo
 
 pub word-is-spec : {M : Type 1} → statement M
 word-is-spec =
-    tie.close (tie.spec Inv-loop μ-loop returns loop-holds (λ c. search needs) (λ c κs. search needs) (λ c. search needs) returns-2
+    tie.close (tie.spec Inv-loop μ-loop returns loop-holds (λ c. search (needs, bytes-length)) (λ c κs. search (needs, bytes-length)) (λ c. search needs) returns-2
     (λ c. search needs) (λ c. search needs) loop-again returns-3)
