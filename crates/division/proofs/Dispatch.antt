@@ -15,12 +15,12 @@ use Rattle.element.specs.Types.{read, wrap, widthOf, signedOf, valueOf, wrapTo,
 use Rattle.element.specs.declared.ElementType.{ElementType}
 use Rattle.element.specs.declared.ElementType.the-variants.{I1, I8, I16, I32, I64, U8, U16, U32, U64}
 use Rattle.element.proofs.Signed.{value-signed, value-unsigned}
+use Rattle.element.proofs.Ends.{zero-value}
 use Rattle.element.proofs.Range.{signed-range, unsigned-range, unsigned-fixed, wrapped-value}
 use Rattle.division.proofs.Cast.{held}
 use Rattle.division.proofs.Quotient.{half}
 use Rattle.division.specs.Division.{resultOf, divisionOf}
 use Rattle.division.specs.declared.Division.{Division}
-use Rattle.division.specs.declared.Divided.the-variants.{Value as Result, ByZero}
 
 -- a signed type of none of the narrower widths has 64 bits
 pub sixty-four : (t : ElementType) → signedOf t ≡ true → (widthOf t ≡ 8 → ⊥) → (widthOf t ≡ 16 → ⊥) → (widthOf t ≡ 32 → ⊥) → widthOf t ≡ 64
@@ -53,11 +53,11 @@ module _ (t : ElementType) (g : signedOf t ≡ false) (a b : ℕ) (v : Value t a
   pub unsigned-remainder : a % b ≡ wrapTo t (remZ (valueOf t a) (valueOf t b))
   unsigned-remainder = rw (value-unsigned t a g, value-unsigned t b g) (sym (unsigned-fixed t g (lt-of-le-of-lt (mod-le a b) (unsigned-range t a v g))))
 
--- a quotient or a remainder is a value of its type
-pub division-closed : (op : Division) (t : ElementType) (a b r : ℕ) → divisionOf op t a b ≡ Result r → Value t r
+-- what a division gives is a value of its type
+pub division-closed : (op : Division) (t : ElementType) (a b : ℕ) → Value t (divisionOf op t a b .1)
 unfolding divisionOf
-division-closed op t a b r = go (eqb b 0)
+division-closed op t a b = go (eqb b 0)
   where
-    go : (z : Bool) → pick z ByZero (Result (wrapTo t (resultOf op (valueOf t a) (valueOf t b)))) ≡ Result r → Value t r
-    go true e = let z : _≡_ {A = ℕ} 0 1 = cc in absurd (omega arith)
-    go false e = let q : wrapTo t (resultOf op (valueOf t a) (valueOf t b)) ≡ r = cc in rw q at (wrapped-value t (resultOf op (valueOf t a) (valueOf t b)))
+    go : (z : Bool) → Value t (pick {A = ℕ × ℕ} z (12, 0) (0, wrapTo t (resultOf op (valueOf t a) (valueOf t b))) .1)
+    go true = zero-value t
+    go false = wrapped-value t (resultOf op (valueOf t a) (valueOf t b))

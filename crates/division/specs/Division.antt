@@ -22,6 +22,11 @@ abbrev pub resultOf : Division → ℤ → ℤ → ℤ
 resultOf Divide = quotZ
 resultOf Remainder = remZ
 
--- on slots of a type; a zero divisor has no result
-unfoldable pub divisionOf : Division → ElementType → ℕ → ℕ → Divided
-divisionOf op t a b = pick (eqb b 0) ByZero (Value (wrapTo t (resultOf op (valueOf t a) (valueOf t b))))
+-- an answer's refusal ("12 | zero divisor") and its value ("Unnamed ones are 0")
+abbrev pub numbersOf : Divided → ℕ × ℕ
+numbersOf (Value v) = (0, v)
+numbersOf ByZero = (12, 0)
+
+-- refusal and value on slots of a type
+unfoldable pub divisionOf : Division → ElementType → ℕ → ℕ → ℕ × ℕ
+divisionOf op t a b = pick (eqb b 0) (12, 0) (0, wrapTo t (resultOf op (valueOf t a) (valueOf t b)))

@@ -6,7 +6,7 @@ ghost use lib.Signed.{remZ};
 ghost use mir.Syntax.{w8, w16, w32, w64};
 ghost use mir.Val.{SFits};
 ghost use Rattle.element.specs.Types.{Value, signedOf, wrap, valueOf, wrapTo};
-ghost use Rattle.division.specs.Division.{quotientOf, resultOf, divisionOf};
+ghost use Rattle.division.specs.Division.{quotientOf, resultOf, numbersOf, divisionOf};
 use element::ElementType;
 
 // divide and remainder of 000.
@@ -15,7 +15,7 @@ pub enum Division {
     Remainder,
 }
 
-// A quotient or a remainder; none for a zero divisor.
+// A quotient or a remainder; none for a zero divisor (01's numbers: `numbersOf`).
 pub enum Divided {
     Value(u64),
     ByZero,
@@ -170,7 +170,7 @@ fn divide_signed(op: Division, t: ElementType, a: u64, b: u64) -> u64
 // divide or remainder of two values of the type.
 pub fn apply_division(op: Division, t: ElementType, a: u64, b: u64) -> Divided
     requires { ⌜ Value t a × Value t b ⌝ }
-    ensures { λ r. ⌜ r ≡ divisionOf op t a b ⌝ }
+    ensures { λ r. ⌜ numbersOf r ≡ divisionOf op t a b ⌝ }
 {
     if b == 0 {
         return Divided::ByZero;

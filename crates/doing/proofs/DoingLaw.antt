@@ -18,7 +18,7 @@ use Rattle.shape.specs.Dims.{dimsOf, Fills}
 use Rattle.shape.specs.declared.Shape.{Shape}
 use Rattle.maps.specs.Concatenation.{noShape, shapesOf, inputsOf, concatenated}
 use Rattle.maps.specs.Holds.{ConcatenateHolds, Inputs}
-use Rattle.elementwise.specs.Elementwise.{Tensor, Holds, stepOf, divided, Divides}
+use Rattle.elementwise.specs.Elementwise.{Tensor, Holds, numbersOf, outNumbers, divided, Divides}
 use Rattle.elementwise.specs.declared.Step.{Step}
 use Rattle.elementwise.specs.declared.Step.the-variants.{Filled, Zero}
 use Rattle.ops.specs.declared.Kind.{Kind}
@@ -69,19 +69,19 @@ in-class c kind e d q = subst (λ (k : Class). InClass k kind) (sym e ∙ q) (ow
 -- ---- answers
 
 -- an op that gives its tensor
-pub given : {m : Out Tensor ℕ} {old new : List ℕ} → m ≡ gives new → Done m Filled old new
-given {m} {old} {new} e = subst (λ (k : Out Tensor ℕ). Done k Filled old new) (sym e) (record { answers = refl; leaves = refl })
+pub given : {number : ℕ} {m : Out Tensor ℕ} {old new : List ℕ} → m ≡ gives new → Done number m Filled old new
+given {number} {m} {old} {new} e = subst (λ (k : Out Tensor ℕ). Done number k Filled old new) (sym e) (record { answers = refl; leaves = refl })
 
-pub gives-done : (kind : Kind) (o : Operation) (args : List Tensor) {old new : List ℕ} → Gives kind o args new → Answers kind o args Filled old new
+pub gives-done : (kind : Kind) (o : Operation) (args : List Tensor) {number : ℕ} {old new : List ℕ} → Gives kind o args new → Answers number kind o args Filled old new
 gives-done kind o args g values = given (g values)
 
 -- a division that met no zero divisor, and one that did, whose stretch was set to zeros
-kept : (m : Out Tensor ℕ) (f : ℕ → Tensor) {old new : List ℕ} → Filled ≡ stepOf m → new ≡ onOut m (λ v. v) f → Done m Filled old new
+kept : {number : ℕ} (m : Out Tensor ℕ) (f : ℕ → Tensor) {old new : List ℕ} → numbersOf Filled ≡ outNumbers number m → new ≡ onOut m (λ v. v) f → Done number m Filled old new
 kept (gives v) f e q = record { answers = e; leaves = q }
-kept (stops k) f e q = absurd (let z : _≡_ {A = ℕ} 0 1 = cc in omega arith)
+kept (stops k) f e q = absurd (let z : _≡_ {A = ℕ} 0 12 = ap (λ n. n .0) e in omega arith)
 
-zeroed : (m : Out Tensor ℕ) {k : ℕ} {old new : List ℕ} → Zero k ≡ stepOf m → new ≡ replicate (length old) 0 → Done m (Zero k) old new
-zeroed (gives v) e q = absurd (let z : _≡_ {A = ℕ} 0 1 = cc in omega arith)
+zeroed : {number : ℕ} (m : Out Tensor ℕ) {k z : ℕ} {old new : List ℕ} → numbersOf (Zero k z) ≡ outNumbers number m → new ≡ replicate (length old) 0 → Done number m (Zero k z) old new
+zeroed (gives v) e q = absurd (let z : _≡_ {A = ℕ} 12 0 = ap (λ n. n .0) e in omega arith)
 zeroed (stops k) e q = record { answers = e; leaves = q }
 
 pub zeros : (n : ℕ) → tab {A = ℕ} n (λ k. 0) ≡ replicate n 0
@@ -163,16 +163,16 @@ module _ (o : Operation) (places slots : List ℕ) where
     unfolding opGives
     is-divided values = rw (ex, ey) (quotient-is op o a values [] (argsIn o places slots) _ _ _ old arguments f)
 
-    module _ {s : Step} {mid : List ℕ} (d : Divides op (o .result .element) x y s old mid) where
-      pub quotient-filled : s ≡ Filled → Answers (Quotient op) o (argsIn o places slots) Filled old mid
+    module _ {number : ℕ} {s : Step} {mid : List ℕ} (d : Divides number op (o .result .element) x y s old mid) where
+      pub quotient-filled : s ≡ Filled → Answers number (Quotient op) o (argsIn o places slots) Filled old mid
       quotient-filled e values =
-          subst (λ (m : Out Tensor ℕ). Done m Filled old mid) (sym (is-divided values)) (kept _ _ (sym e ∙ d .answers) (d .leaves))
+          subst (λ (m : Out Tensor ℕ). Done number m Filled old mid) (sym (is-divided values)) (kept _ _ (ap numbersOf (sym e) ∙ d .answers) (d .leaves))
 
-      pub quotient-zeroed : {k : ℕ} {new : List ℕ} → s ≡ Zero k → length mid ≡ length old → new ≡ replicate (length mid) 0
-          → Answers (Quotient op) o (argsIn o places slots) (Zero k) old new
-      quotient-zeroed {k} {new} e l q values =
-          subst (λ (m : Out Tensor ℕ). Done m (Zero k) old new) (sym (is-divided values))
-          (zeroed _ (sym e ∙ d .answers) (q ∙ ap (λ (n : ℕ). replicate n 0) l))
+      pub quotient-zeroed : {k z : ℕ} {new : List ℕ} → s ≡ Zero k z → length mid ≡ length old → new ≡ replicate (length mid) 0
+          → Answers number (Quotient op) o (argsIn o places slots) (Zero k z) old new
+      quotient-zeroed {k} {z} {new} e l q values =
+          subst (λ (m : Out Tensor ℕ). Done number m (Zero k z) old new) (sym (is-divided values))
+          (zeroed _ (ap numbersOf (sym e) ∙ d .answers) (q ∙ ap (λ (n : ℕ). replicate n 0) l))
 
   -- ---- concatenate
 

@@ -11,7 +11,7 @@ use Rattle.run.specs.Run.{Out, gives, onOut}
 use Rattle.run.specs.Ways.{byFold}
 use Rattle.shape.specs.Index.{at, size}
 use Rattle.shape.specs.Dims.{dimsOf}
-use Rattle.elementwise.specs.Elementwise.{Tensor, Holds, stepOf}
+use Rattle.elementwise.specs.Elementwise.{Tensor, Holds, numbersOf, outNumbers}
 use Rattle.elementwise.specs.declared.Step.{Step}
 use Rattle.ops.specs.declared.Kind.{Kind}
 use Rattle.ops.specs.declared.Kind.the-variants.{Constant, Iota, Elementwise, Pairwise, Quotient, Compare, Convert, Select, Clamp, Moved, Pad, Concatenate, DynamicSlice, Reduce}
@@ -52,9 +52,9 @@ pub record Placed (o : Operation) (places slots : List ℕ) : Type 0 where
 abbrev pub Readable : Kind → Operation → List ℕ → ℕ → Type 0
 Readable kind o text literal = kind ≡ Constant → denseValue (o .value .element) (dimsOf (o .value .shape)) text literal .ok ≡ true
 
--- how an op answers, and what it leaves where old stood: its tensor; "zero from the refusing op's first slot"
-pub record Done (m : Out Tensor ℕ) (r : Step) (old new : List ℕ) : Type 0 where
-  pub answers : r ≡ stepOf m
+-- how the op with this number answers, and what it leaves where old stood: its tensor; "zero from the refusing op's first slot"
+pub record Done (number : ℕ) (m : Out Tensor ℕ) (r : Step) (old new : List ℕ) : Type 0 where
+  pub answers : numbersOf r ≡ outNumbers number m
   pub leaves : new ≡ onOut m (λ v. v) (λ k. replicate (length old) 0)
 
 -- ---- its parts
@@ -89,5 +89,5 @@ abbrev pub Gives : Kind → Operation → List Tensor → Tensor → Type 0
 Gives kind o args v = (values : Tensor) → opGives kind o values args ≡ gives v
 
 -- an op other than a constant answers r and leaves new where old stood
-abbrev pub Answers : Kind → Operation → List Tensor → Step → List ℕ → List ℕ → Type 0
-Answers kind o args r old new = (values : Tensor) → Done (opGives kind o values args) r old new
+abbrev pub Answers : ℕ → Kind → Operation → List Tensor → Step → List ℕ → List ℕ → Type 0
+Answers number kind o args r old new = (values : Tensor) → Done number (opGives kind o values args) r old new

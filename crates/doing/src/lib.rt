@@ -134,7 +134,6 @@ fn operand(o: Operation, places: [usize; Limits::OPERANDS], slots: &[u64], j: us
     &slots[0..0]
 }
 
-// Every slot becomes zero.
 // Zeros in every slot.
 pub fn zero_into(out: &mut [u64])
     ensures { λ _. ⌜ now (out .exit) ≡ replicate (length (now (out .entry))) 0 ⌝ }
@@ -159,6 +158,7 @@ fn constant_op(text: &[u8], o: Operation, literal: usize, out: &mut [u64])
 
 // divide or remainder: element by element, and all zeros where a divisor is zero.
 fn quotient_op(
+    number: usize,
     op: Division,
     o: Operation,
     places: [usize; Limits::OPERANDS],
@@ -166,18 +166,18 @@ fn quotient_op(
     out: &mut [u64],
 ) -> Step
     requires { ⌜ AcceptedAs (Quotient op) o × Placed o places (now slots) × Fills (now out) (o .result .shape) ⌝ }
-    ensures { λ r. ⌜ Answers (Quotient op) o (argsIn o places (now (slots .entry))) r (now (out .entry)) (now (out .exit)) ⌝ }
+    ensures { λ r. ⌜ Answers number (Quotient op) o (argsIn o places (now (slots .entry))) r (now (out .entry)) (now (out .exit)) ⌝ }
 {
     let result = o.result;
     let element = result.element;
     let x = operand(o, places, slots, 0);
     let y = operand(o, places, slots, 1);
-    let s = elementwise::division_into(op, element, x, y, out);
+    let s = elementwise::division_into(number, op, element, x, y, out);
     match s {
         Step::Filled => Step::Filled,
-        Step::Zero(k) => {
+        Step::Zero(k, z) => {
             zero_into(out);
-            Step::Zero(k)
+            Step::Zero(k, z)
         }
     }
 }
@@ -212,9 +212,10 @@ fn task_op(
     apply::fill(task_of(kind, o), starts_of(places, slots), x, y, z, out)
 }
 
-// Does one op: its stretch `out` is filled, or zeros are left and the first element whose divisor is zero is answered.
+// Does one op: its stretch `out` is filled, or zeros are left and its number and the first element whose divisor is zero are answered.
 pub fn do_op(
     text: &[u8],
+    number: usize,
     kind: Kind,
     o: Operation,
     literal: usize,
@@ -223,7 +224,7 @@ pub fn do_op(
     out: &mut [u64],
 ) -> Step
     requires { ⌜ AcceptedAs kind o × Placed o places (now slots) × Readable kind o (now text) literal × Fills (now out) (o .result .shape) ⌝ }
-    ensures { λ r. ⌜ Done (opGives kind o (valuesAt o (now (text .entry)) literal) (argsIn o places (now (slots .entry)))) r (now (out .entry)) (now (out .exit)) ⌝ }
+    ensures { λ r. ⌜ Done number (opGives kind o (valuesAt o (now (text .entry)) literal) (argsIn o places (now (slots .entry)))) r (now (out .entry)) (now (out .exit)) ⌝ }
 {
     let class = class_of(kind);
     match class {
@@ -231,7 +232,7 @@ pub fn do_op(
             constant_op(text, o, literal, out);
             Step::Filled
         }
-        Class::Divided(op) => quotient_op(op, o, places, slots, out),
+        Class::Divided(op) => quotient_op(number, op, o, places, slots, out),
         Class::Joined => {
             concatenate_op(o, places, slots, out);
             Step::Filled

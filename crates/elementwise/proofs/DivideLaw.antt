@@ -3,7 +3,6 @@
 use mathlib.Core.Path.{_≡_, refl, sym, ap, _∙_}
 use mathlib.Core.Bool.{Bool, true, false}
 use mathlib.Core.List.{List}
-use mathlib.Core.Logic.{_⊎_, inl, inr}
 use Prim.Native.Nat.{ℕ, _+_, _≤_, _<_}
 use native.Mathlib.Omega.{arith}
 use lib.Dec.{eqb}
@@ -18,10 +17,6 @@ use Rattle.division.specs.declared.Division.{Division}
 use Rattle.elementwise.specs.Elementwise.{Tensor, Holds, isZero, operandAt, zeroDivisor, divisionAt, Divides}
 use Rattle.elementwise.specs.declared.Step.the-variants.{Filled, Zero}
 use Rattle.elementwise.proofs.FillLaw.{Done, done-all}
-
-pub either : {A B C : Type 0} → A ⊎ B → (A → C) → (B → C) → C
-either (inl a) f g = f a
-either (inr b) f g = g b
 
 pub value-at : {t : ElementType} {n : ℕ} {x : Tensor} → Holds t n x → (k : ℕ) → k < n → Value t (getD x k 0)
 value-at {t} {n} {x} h k q = all-get (Value t) x 0 (h .ranged) k (omega (arith, h .sized))
@@ -43,13 +38,13 @@ module _ (x y : Tensor) (k j v : ℕ) (read : v ≡ operandAt x y k j) where
       go false n e f = ap isZero (sym f) ∙ sym e
 
 -- the walk's two ends
-module _ {op : Division} {t : ElementType} {x y : Tensor} {old new : List ℕ} (same : length y ≡ length old) where
-  pub zero-at : (k : ℕ) → k < length old → isZero (getD y k 0) ≡ true → Passed isZero y k → Done (divisionAt op t x y) old k new → Divides op t x y (Zero k) old new
+module _ {number : ℕ} {op : Division} {t : ElementType} {x y : Tensor} {old new : List ℕ} (same : length y ≡ length old) where
+  pub zero-at : (k : ℕ) → k < length old → isZero (getD y k 0) ≡ true → Passed isZero y k → Done (divisionAt op t x y) old k new → Divides number op t x y (Zero number k) old new
   zero-at k h z p d =
       let e : k ≡ firstWhere isZero y = passed-here isZero y k (omega arith) z p in
       record { answers = rw (← e, lt-ltb k (length old) h); leaves = rw (← e, lt-ltb k (length old) h) (d .filled) }
 
-  pub zero-nowhere : {k : ℕ} → length old ≤ k → Passed isZero y k → Done (divisionAt op t x y) old k new → Divides op t x y Filled old new
+  pub zero-nowhere : {k : ℕ} → length old ≤ k → Passed isZero y k → Done (divisionAt op t x y) old k new → Divides number op t x y Filled old new
   zero-nowhere {k} h p d =
       let e : k ≡ firstWhere isZero y = passed-end isZero y k (omega arith) p in
       let past = le-ltb (firstWhere isZero y) (length old) (omega arith) in

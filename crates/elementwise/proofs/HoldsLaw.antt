@@ -1,6 +1,6 @@
 -- Each result holds values of its type.
 -- Assumes nothing.
-use mathlib.Core.Path.{_≡_, refl, subst}
+use mathlib.Core.Path.{_≡_, subst}
 use mathlib.Core.Bool.{Bool, true, false}
 use Prim.Native.Nat.{ℕ, _<_}
 use native.Mathlib.Omega.{arith}
@@ -12,17 +12,13 @@ use Rattle.run.specs.Run.{gives, stops}
 use Rattle.element.specs.Types.{Value}
 use Rattle.element.specs.declared.ElementType.{ElementType}
 use Rattle.element.specs.declared.ElementType.the-variants.{I1}
-use Rattle.element.proofs.Ends.{zero-value}
-use Rattle.division.specs.Division.{divisionOf}
 use Rattle.division.specs.declared.Division.{Division}
-use Rattle.division.specs.declared.Divided.{Divided}
-use Rattle.division.specs.declared.Divided.the-variants.{Value as Quotient, ByZero}
 use Rattle.division.proofs.Dispatch.{division-closed}
 use Rattle.scalar.specs.declared.Unary.{Unary}
 use Rattle.scalar.specs.declared.Binary.{Binary}
 use Rattle.scalar.specs.declared.Direction.{Direction}
 use Rattle.scalar.proofs.Closed.{unary-closed, binary-closed, compare-closed, clamp-closed, select-closed, convert-closed}
-use Rattle.elementwise.specs.Elementwise.{Tensor, Holds, spread, spreadSize, unaryAt, binaryAt, compareAt, convertAt, selectAt, clampAt, isZero, slotIn, divisionAt, divided}
+use Rattle.elementwise.specs.Elementwise.{Tensor, Holds, spread, spreadSize, unaryAt, binaryAt, compareAt, convertAt, selectAt, clampAt, isZero, divisionAt, divided}
 use Rattle.elementwise.proofs.DivideLaw.{value-at}
 
 pub tab-holds : (t : ElementType) (n : ℕ) (f : ℕ → ℕ) → ((k : ℕ) → k < n → Value t (f k)) → Holds t n (tab n f)
@@ -52,13 +48,6 @@ module _ (t : ElementType) (n : ℕ) where
       → Holds t n (tab n (clampAt t one other min x max))
   clamp-holds one other a h b = tab-holds t n _ (λ k q. clamp-closed t _ _ _ (spread-value one a k q) (value-at h k q) (spread-value other b k q))
 
-  slot-value : (op : Division) (a b : ℕ) → Value t (slotIn (divisionOf op t a b))
-  slot-value op a b = go (divisionOf op t a b) refl
-    where
-      go : (d : Divided) → divisionOf op t a b ≡ d → Value t (slotIn d)
-      go (Quotient v) e = division-closed op t a b v e
-      go ByZero e = zero-value t
-
   pub divided-holds : (op : Division) (x y v : Tensor) → divided op t n x y ≡ gives v → Holds t n v
   divided-holds op x y v = go (ltb (firstWhere isZero y) n)
     where
@@ -66,4 +55,4 @@ module _ (t : ElementType) (n : ℕ) where
       go true e = absurd (let z : _≡_ {A = ℕ} 0 1 = cc in omega arith)
       go false e =
           let z : tab n (divisionAt op t x y) ≡ v = cc in
-          subst (Holds t n) z (tab-holds t n _ (λ k q. slot-value op _ _))
+          subst (Holds t n) z (tab-holds t n _ (λ k q. division-closed op t _ _))

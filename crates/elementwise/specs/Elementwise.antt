@@ -12,8 +12,6 @@ use Rattle.element.specs.Types.{Value}
 use Rattle.element.specs.declared.ElementType.{ElementType}
 use Rattle.division.specs.Division.{divisionOf}
 use Rattle.division.specs.declared.Division.{Division}
-use Rattle.division.specs.declared.Divided.{Divided}
-use Rattle.division.specs.declared.Divided.the-variants.{Value as Quotient, ByZero}
 use Rattle.scalar.specs.Ops.{unaryOf, binaryOf, compareOf, selectOf, clampOf, convertOf}
 use Rattle.scalar.specs.declared.Unary.{Unary}
 use Rattle.scalar.specs.declared.Binary.{Binary}
@@ -85,28 +83,29 @@ operandAt x y k j = pick (eqb j 0) (getD x k 0) (getD y k 0)
 abbrev pub zeroDivisor : ℕ → ℕ → Bool
 zeroDivisor j v = pick (eqb j 0) false (isZero v)
 
--- the slot of a quotient or a remainder
-abbrev pub slotIn : Divided → ℕ
-slotIn (Quotient v) = v
-slotIn ByZero = 0
-
+-- the value of a quotient or a remainder
 abbrev pub divisionAt : Division → ElementType → Tensor → Tensor → ℕ → ℕ
-divisionAt op t x y k = slotIn (divisionOf op t (getD x k 0) (getD y k 0))
+divisionAt op t x y k = divisionOf op t (getD x k 0) (getD y k 0) .1
 
 -- "Evaluation stops at the first element whose divisor is zero"
 abbrev pub divided : Division → ElementType → ℕ → Tensor → Tensor → Out Tensor ℕ
 divided op t n x y = pick (ltb (firstWhere isZero y) n) (stops (firstWhere isZero y)) (gives (tab n (divisionAt op t x y)))
 
--- how an op's function answers
-abbrev pub stepOf : Out Tensor ℕ → Step
-stepOf (gives v) = Filled
-stepOf (stops k) = Zero k
+-- "An answer has three numbers: refusal, A, B"; "12 | zero divisor | op | element"
+abbrev pub numbersOf : Step → ℕ × ℕ × ℕ
+numbersOf Filled = (0, 0, 0)
+numbersOf (Zero op element) = (12, op, element)
+
+-- the numbers of the op with this number, by what it gives
+abbrev pub outNumbers : ℕ → Out Tensor ℕ → ℕ × ℕ × ℕ
+outNumbers number (gives v) = (0, 0, 0)
+outNumbers number (stops element) = (12, number, element)
 
 -- what a division leaves where old stood: the results, or those before the first zero divisor and the old rest
 abbrev pub leftBy : Division → ElementType → Tensor → Tensor → List ℕ → List ℕ
 leftBy op t x y old = onOut (divided op t (length old) x y) (λ v. v) (λ k. tab k (divisionAt op t x y) ++ drop k old)
 
 -- what a division answers, and what it leaves where old stood
-pub record Divides (op : Division) (t : ElementType) (x y : Tensor) (r : Step) (old new : List ℕ) : Type 0 where
-  pub answers : r ≡ stepOf (divided op t (length old) x y)
+pub record Divides (number : ℕ) (op : Division) (t : ElementType) (x y : Tensor) (r : Step) (old new : List ℕ) : Type 0 where
+  pub answers : numbersOf r ≡ outNumbers number (divided op t (length old) x y)
   pub leaves : new ≡ leftBy op t x y old

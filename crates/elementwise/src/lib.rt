@@ -6,7 +6,7 @@ ghost use lib.ListN.{length};
 ghost use Rattle.lists.specs.Lists.{tab, pick};
 ghost use Rattle.element.specs.Types.{Value};
 ghost use Rattle.division.specs.Division.{divisionOf};
-ghost use Rattle.elementwise.specs.Elementwise.{Holds, Sized, SelectSized, ClampSized, spread, unaryAt, binaryAt, compareAt, convertAt, selectAt, clampAt, operandAt, zeroDivisor, slotIn, divisionAt, Divides};
+ghost use Rattle.elementwise.specs.Elementwise.{Holds, Sized, SelectSized, ClampSized, spread, unaryAt, binaryAt, compareAt, convertAt, selectAt, clampAt, operandAt, zeroDivisor, divisionAt, Divides};
 use division::Divided;
 use division::Division;
 use element::ElementType;
@@ -14,10 +14,10 @@ use scalar::Binary;
 use scalar::Direction;
 use scalar::Unary;
 
-// What an op answers: its stretch is filled, or the first element whose divisor is zero.
+// What an op answers: its stretch is filled, or the op and its first element whose divisor is zero (01's numbers: `numbersOf`).
 pub enum Step {
     Filled,
-    Zero(usize),
+    Zero(usize, usize),
 }
 
 pub fn unary_into(op: Unary, t: ElementType, x: &[u64], out: &mut [u64])
@@ -132,7 +132,7 @@ fn is_zero_divisor(j: usize, v: u64) -> bool
 // The slot of a quotient or a remainder.
 fn divide_slots(op: Division, t: ElementType, a: u64, b: u64) -> u64
     requires { ⌜ Value t a × Value t b ⌝ }
-    ensures { λ r. ⌜ r ≡ slotIn (divisionOf op t a b) ⌝ }
+    ensures { λ r. ⌜ r ≡ divisionOf op t a b .1 ⌝ }
 {
     let d = division::apply_division(op, t, a, b);
     match d {
@@ -141,31 +141,33 @@ fn divide_slots(op: Division, t: ElementType, a: u64, b: u64) -> u64
     }
 }
 
-// Each element's operands in turn; a zero divisor ends the walk at its element.
-pub fn division_into(op: Division, t: ElementType, x: &[u64], y: &[u64], out: &mut [u64]) -> Step
+// Each element's operands in turn; a zero divisor ends the walk, which yields the op's number and the element.
+pub fn division_into(
+    number: usize,
+    op: Division,
+    t: ElementType,
+    x: &[u64],
+    y: &[u64],
+    out: &mut [u64],
+) -> Step
     requires { ⌜ Holds t (length (now out)) (now x) × Holds t (length (now out)) (now y) ⌝ }
-    ensures { λ r. ⌜ Divides op t (now (x .entry)) (now (y .entry)) r (now (out .entry)) (now (out .exit)) ⌝ }
+    ensures { λ r. ⌜ Divides number op t (now (x .entry)) (now (y .entry)) r (now (out .entry)) (now (out .exit)) ⌝ }
 {
     let n = out.len();
     let mut k = 0;
-    let place = 'walk: loop {
+    'walk: loop {
         if n <= k {
-            break 'walk n;
+            break 'walk Step::Filled;
         }
         let mut pair = [0u64; 2];
         for j in 0..2 {
             let v = operand_at(x, y, k, j);
             if is_zero_divisor(j, v) {
-                break 'walk k;
+                break 'walk Step::Zero(number, k);
             }
             pair[j] = v;
         }
         out[k] = divide_slots(op, t, pair[0], pair[1]);
         k += 1;
-    };
-    if place < n {
-        Step::Zero(place)
-    } else {
-        Step::Filled
     }
 }

@@ -10,7 +10,7 @@ use borrow.Rule.Slice.PartMut.{putMid, postOf, post-is}
 use Rattle.run.specs.Run.{Out, gives, stops}
 use Rattle.elementwise.specs.declared.Step.{Step}
 use Rattle.elementwise.specs.declared.Step.the-variants.{Filled, Zero}
-use Rattle.elementwise.specs.Elementwise.{Tensor, stepOf}
+use Rattle.elementwise.specs.Elementwise.{Tensor, numbersOf}
 use Rattle.values.specs.declared.Values.{Values}
 use Rattle.offsets.specs.Offsets.{sizeAt, offsetAt, neededOf}
 use Rattle.offsets.proofs.OffsetsLaw.{offset-next, offset-turn, within}
@@ -31,23 +31,22 @@ stretch-of vs n at size room space e f l r s m =
     let w = within vs n l in
     record { start = e; stop = offset-turn vs n at size e f; inside = omega arith; within = omega arith; small = omega arith }
 
-pub written-as : {m : Out Tensor ℕ} {at at2 end end2 : ℕ} {r : Step} {done done2 store store2 : List ℕ} → at ≡ at2 → end ≡ end2
-    → Written m at end r done done2 store store2 → Written m at2 end2 r done done2 store store2
-written-as {m} {at} {at2} {end} {end2} {r} {done} {done2} {store} {store2} e f w =
-    subst (λ (a : ℕ). Written m a end2 r done done2 store store2) e (subst (λ (b : ℕ). Written m at b r done done2 store store2) f w)
+pub written-as : {number : ℕ} {m : Out Tensor ℕ} {at at2 end end2 : ℕ} {r : Step} {done done2 store store2 : List ℕ} → at ≡ at2 → end ≡ end2
+    → Written number m at end r done done2 store store2 → Written number m at2 end2 r done done2 store store2
+written-as {number} {m} {at} {at2} {end} {end2} {r} {done} {done2} {store} {store2} e f w =
+    subst (λ (a : ℕ). Written number m a end2 r done done2 store store2) e (subst (λ (b : ℕ). Written number m at b r done done2 store store2) f w)
 
 module _ (at end : ℕ) (store : List ℕ) (h : at ≤ end) (l : end ≤ length store) where
   -- what is lent has the length of the stretch
   pub lent-length : length (take (end - at) (drop at store)) ≡ end - at
   lent-length = length-take-le (end - at) (drop at store) (omega (arith, length-drop at store))
 
-  module _ (done : List ℕ) where
+  module _ {number : ℕ} (done : List ℕ) where
     pub filled : (m : Out Tensor ℕ) (r : Step) (ys zs : List ℕ) → ((v : Tensor) → m ≡ gives v → length v ≡ end - at)
-        → Done m r (take (end - at) (drop at store)) ys → r ≡ Filled → zs ≡ take (end - at) (drop at (putMid at (end - at) store ys))
-        → Written m at end Filled done (putMid at (end - at) done zs) store (putMid at (end - at) store ys)
+        → Done number m r (take (end - at) (drop at store)) ys → r ≡ Filled → zs ≡ take (end - at) (drop at (putMid at (end - at) store ys))
+        → Written number m at end Filled done (putMid at (end - at) done zs) store (putMid at (end - at) store ys)
     filled (stops k) r ys zs long d f q =
-        let w : Zero k ≡ Filled = sym (d .answers) ∙ f in
-        let o : _≡_ {A = ℕ} 0 1 = cc in
+        let o : _≡_ {A = ℕ} 0 12 = ap (λ n. n .0) (ap numbersOf (sym f) ∙ d .answers) in
         absurd (omega arith)
     filled (gives v) r ys zs long d f q =
         let whole : zs ≡ v =
@@ -59,15 +58,14 @@ module _ (at end : ℕ) (store : List ℕ) (h : at ≤ end) (l : end ≤ length 
           store-is = rw (d .leaves, post-is at end store h);
         }
 
-    pub unfilled : (m : Out Tensor ℕ) (z : ℕ) (r : Step) (ys : List ℕ) → Done m r (take (end - at) (drop at store)) ys → r ≡ Zero z
-        → Written m at end (Zero z) done done store (putMid at (end - at) store ys)
-    unfilled (gives v) z r ys d f =
-        let w : Filled ≡ Zero z = sym (d .answers) ∙ f in
-        let o : _≡_ {A = ℕ} 0 1 = cc in
+    pub unfilled : (m : Out Tensor ℕ) (k z : ℕ) (r : Step) (ys : List ℕ) → Done number m r (take (end - at) (drop at store)) ys → r ≡ Zero k z
+        → Written number m at end (Zero k z) done done store (putMid at (end - at) store ys)
+    unfilled (gives v) k z r ys d f =
+        let o : _≡_ {A = ℕ} 12 0 = ap (λ n. n .0) (ap numbersOf (sym f) ∙ d .answers) in
         absurd (omega arith)
-    unfilled (stops k) z r ys d f =
+    unfilled (stops w) k z r ys d f =
         record {
-          answers = sym f ∙ d .answers;
+          answers = ap numbersOf (sym f) ∙ d .answers;
           done-is = refl;
           store-is = rw (d .leaves, lent-length, post-is at end store h);
         }

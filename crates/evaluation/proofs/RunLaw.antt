@@ -9,7 +9,8 @@ use lib.Seq.{length-take-le, take-at}
 use Rattle.run.specs.Run.{Out, gives, stops, onOut}
 use Rattle.elementwise.specs.declared.Step.{Step}
 use Rattle.elementwise.specs.declared.Step.the-variants.{Filled, Zero}
-use Rattle.elementwise.specs.Elementwise.{Tensor, stepOf}
+use Rattle.elementwise.specs.Elementwise.{Tensor, numbersOf, outNumbers}
+use Rattle.judge.specs.declared.Refusal.{Refusal}
 use Rattle.judge.specs.Judge.{refuse, accepted}
 use Rattle.program.specs.declared.Program.{Program as Places}
 use Rattle.program.specs.Program.{programOf}
@@ -26,19 +27,21 @@ use Rattle.evaluation.specs.State.{State, Written, zeroed, copied, Start
 use Rattle.evaluation.proofs.StateLaw.{drop-two, drop-further, within-needed, first-slots, state-start, state-next, state-stop, state-end, ran-copied}
 
 -- a stop is no tensor, and a tensor no stop
-filled-gives : (m : Out Tensor ℕ) (r : Step) → r ≡ stepOf m → r ≡ Filled → (v : Tensor) × (m ≡ gives v)
-filled-gives (gives v) r e f = (v, refl)
-filled-gives (stops k) r e f =
-    let w : Zero k ≡ Filled = sym e ∙ f in
-    let o : _≡_ {A = ℕ} 0 1 = cc in
-    absurd (omega arith)
+module _ (number : ℕ) (m : Out Tensor ℕ) (r : Step) (e : numbersOf r ≡ outNumbers number m) where
+  filled-gives : r ≡ Filled → (v : Tensor) × (m ≡ gives v)
+  filled-gives f = by-out m (ap numbersOf (sym f) ∙ e)
+    where
+      by-out : (o : Out Tensor ℕ) → numbersOf Filled ≡ outNumbers number o → (v : Tensor) × (o ≡ gives v)
+      by-out (gives v) q = (v, refl)
+      by-out (stops w) q = let z : _≡_ {A = ℕ} 0 12 = ap (λ n. n .0) q in absurd (omega arith)
 
-zero-stops : (m : Out Tensor ℕ) (r : Step) (z : ℕ) → r ≡ stepOf m → r ≡ Zero z → m ≡ stops z
-zero-stops (gives v) r z e f =
-    let w : Filled ≡ Zero z = sym e ∙ f in
-    let o : _≡_ {A = ℕ} 0 1 = cc in
-    absurd (omega arith)
-zero-stops (stops k) r z e f = let w : Zero k ≡ Zero z = sym e ∙ f in let q : k ≡ z = cc in ap stops q
+  -- an op that answers k and z has met a zero divisor, and its three numbers are those of refusal 12
+  zero-stops : (k z : ℕ) → r ≡ Zero k z → (w : ℕ) × (m ≡ stops w) × (refuse 12 k z ≡ refuse 12 number w)
+  zero-stops k z f = by-out m (ap numbersOf (sym f) ∙ e)
+    where
+      by-out : (o : Out Tensor ℕ) → numbersOf (Zero k z) ≡ outNumbers number o → (w : ℕ) × (o ≡ stops w) × (refuse 12 k z ≡ refuse 12 number w)
+      by-out (gives v) q = let z : _≡_ {A = ℕ} 12 0 = ap (λ n. n .0) q in absurd (omega arith)
+      by-out (stops w) q = (w, refl, ap (λ n. refuse (n .0) (n .1) (n .2)) q)
 
 few-slots : (text : List ℕ) → verdict text .number ≡ 0 → neededOf (valuesOf text) ≤ 8192
 unfolding valuesOf
@@ -58,25 +61,26 @@ module _ (text inputs old : List ℕ) (k : ℕ) (done store : List ℕ) (s : Sta
   n = valuesOf text .inputs + k
 
   module _ (a : Places) (starts : List ℕ) (e : Accepts text a (valuesOf text) starts) (l : k < opsOf (programOf text)) (r : Step) (done2 store2 : List ℕ)
-      (w : Written (opMeaning text k done) (offsetAt vs n) (offsetAt vs (n + 1)) r done done2 store store2) where
+      (w : Written k (opMeaning text k done) (offsetAt vs n) (offsetAt vs (n + 1)) r done done2 store store2) where
     next : r ≡ Filled → State text inputs old (k + 1) done2 store2
     next f =
-        let g = filled-gives (opMeaning text k done) r (w .answers) f in
+        let g = filled-gives k (opMeaning text k done) r (w .answers) f in
         let d : done2 ≡ take (offsetAt vs n) done ++ (g .0 ++ drop (offsetAt vs (n + 1)) done) = rw (g .1) at (w .done-is) in
         let t : store2 ≡ take (offsetAt vs n) store ++ (g .0 ++ drop (offsetAt vs (n + 1)) store) = rw (g .1) at (w .store-is) in
         rw (d, t) (state-next text inputs old (e .verdict) k l done store s (g .0) (drop (offsetAt vs (n + 1)) done) (drop (offsetAt vs (n + 1)) store) (g .1)
         (ap (λ (m : ℕ). drop m store) (sym (offset-next vs n))))
 
-    stop : (z : ℕ) → r ≡ Zero z → neededOf vs ≤ length store
-        → answer (refuse 12 k z) (zeroed (offsetAt vs n) (neededOf vs) store2) ≡ ran text inputs old
-    stop z f room =
+    stop : (y z : ℕ) → r ≡ Zero y z → neededOf vs ≤ length store
+        → answer (refuse 12 y z) (zeroed (offsetAt vs n) (neededOf vs) store2) ≡ ran text inputs old
+    stop y z f room =
         let at : ℕ = offsetAt vs n in
         let end : ℕ = offsetAt vs (n + 1) in
         let needed : ℕ = neededOf vs in
         let one : n + 1 ≡ vs .inputs + (k + 1) = omega arith in
         let up : end ≤ needed = rw one (within-needed text (k + 1) (omega arith)) in
         let up2 : at ≤ end = offset-le vs n (n + 1) (omega arith) in
-        let m : opMeaning text k done ≡ stops z = zero-stops (opMeaning text k done) r z (w .answers) f in
+        let met = zero-stops k (opMeaning text k done) r (w .answers) y z f in
+        let m : opMeaning text k done ≡ stops (met .0) = met .1 in
         let long : length (take at store) ≡ at = length-take-le at store (omega arith) in
         let is : store2 ≡ take at store ++ (replicate (end - at) 0 ++ drop end store) = rw m at (w .store-is) in
         let whole : at + (end - at) ≡ end = omega arith in
@@ -84,9 +88,10 @@ module _ (text inputs old : List ℕ) (k : ℕ) (done store : List ℕ) (s : Sta
         let behind : drop end store2 ≡ drop end store =
         ap (drop end) is ∙ subst (λ (i : ℕ). drop i (take at store ++ (replicate (end - at) 0 ++ drop end store)) ≡ drop end store) whole
         (drop-two (take at store) (replicate (end - at) 0) (drop end store) at (end - at) long (length-replicate (end - at) 0)) in
-        ap (λ (u : List ℕ). answer (refuse 12 k z) (u ++ (replicate (needed - at) 0 ++ drop needed store2))) front
-        ∙ ap (λ (u : List ℕ). answer (refuse 12 k z) (take at store ++ (replicate (needed - at) 0 ++ u))) (drop-further end needed store2 store up behind)
-        ∙ state-stop text inputs old (e .verdict) k l done store s z m room
+        ap (λ (u : List ℕ). answer (refuse 12 y z) (u ++ (replicate (needed - at) 0 ++ drop needed store2))) front
+        ∙ ap (λ (u : List ℕ). answer (refuse 12 y z) (take at store ++ (replicate (needed - at) 0 ++ u))) (drop-further end needed store2 store up behind)
+        ∙ ap (λ (f : Refusal). answer f (take at store ++ (replicate (needed - at) 0 ++ drop needed store))) (met .2)
+        ∙ state-stop text inputs old (e .verdict) k l done store s (met .0) m room
 
 -- ---- of the places and values that the code has
 
@@ -112,25 +117,25 @@ module _ (text : List ℕ) (p : Places) (vs : Values) (starts : List ℕ) (a : A
     run-held = as-read (λ q ws. Held ws (ws .inputs + k) done) (s .held)
 
     module _ (l : k < opsOf p) (r : Step) (done2 store2 : List ℕ)
-        (w : Written (opMeaning text k done) (offsetAt vs (vs .inputs + k)) (offsetAt vs (vs .inputs + k + 1)) r done done2 store store2) where
+        (w : Written k (opMeaning text k done) (offsetAt vs (vs .inputs + k)) (offsetAt vs (vs .inputs + k + 1)) r done done2 store store2) where
       pub run-next : r ≡ Filled → State text inputs old (k + 1) done2 store2
       run-next =
-          as-read (λ q ws. k < opsOf q → Written (opMeaning text k done) (offsetAt ws (ws .inputs + k)) (offsetAt ws (ws .inputs + k + 1)) r done done2 store store2
+          as-read (λ q ws. k < opsOf q → Written k (opMeaning text k done) (offsetAt ws (ws .inputs + k)) (offsetAt ws (ws .inputs + k + 1)) r done done2 store store2
           → r ≡ Filled → State text inputs old (k + 1) done2 store2)
           (λ m v. next text inputs old k done store s (programOf text) starts own m r done2 store2 v) l w
 
       -- zeros from the op's first slot to the last needed one
-      run-stop : (z : ℕ) → r ≡ Zero z → neededOf vs ≤ length store
-          → answer (refuse 12 k z) (zeroed (offsetAt vs (vs .inputs + k)) (neededOf vs) store2) ≡ ran text inputs old
-      run-stop z =
-          as-read (λ q ws. k < opsOf q → Written (opMeaning text k done) (offsetAt ws (ws .inputs + k)) (offsetAt ws (ws .inputs + k + 1)) r done done2 store store2
-          → r ≡ Zero z → neededOf ws ≤ length store
-          → answer (refuse 12 k z) (zeroed (offsetAt ws (ws .inputs + k)) (neededOf ws) store2) ≡ ran text inputs old)
-          (λ m v. stop text inputs old k done store s (programOf text) starts own m r done2 store2 v z) l w
+      run-stop : (y z : ℕ) → r ≡ Zero y z → neededOf vs ≤ length store
+          → answer (refuse 12 y z) (zeroed (offsetAt vs (vs .inputs + k)) (neededOf vs) store2) ≡ ran text inputs old
+      run-stop y z =
+          as-read (λ q ws. k < opsOf q → Written k (opMeaning text k done) (offsetAt ws (ws .inputs + k)) (offsetAt ws (ws .inputs + k + 1)) r done done2 store store2
+          → r ≡ Zero y z → neededOf ws ≤ length store
+          → answer (refuse 12 y z) (zeroed (offsetAt ws (ws .inputs + k)) (neededOf ws) store2) ≡ ran text inputs old)
+          (λ m v. stop text inputs old k done store s (programOf text) starts own m r done2 store2 v y z) l w
 
-      pub run-stopped : (z at end : ℕ) (final : List ℕ) → r ≡ Zero z → neededOf vs ≤ length store → final ≡ zeroed at end store2 → at ≡ offsetAt vs (vs .inputs + k) → end ≡ neededOf vs
-          → answer (refuse 12 k z) final ≡ ran text inputs old
-      run-stopped z at end final f room e q u = rw (e, q, u) (run-stop z f room)
+      pub run-stopped : (y z at end : ℕ) (final : List ℕ) → r ≡ Zero y z → neededOf vs ≤ length store → final ≡ zeroed at end store2 → at ≡ offsetAt vs (vs .inputs + k) → end ≡ neededOf vs
+          → answer (refuse 12 y z) final ≡ ran text inputs old
+      run-stopped y z at end final f room e q u = rw (e, q, u) (run-stop y z f room)
 
   -- op k begins within the slots needed
   pub run-within : (k : ℕ) → k ≤ opsOf p → offsetAt vs (vs .inputs + k) ≤ neededOf vs

@@ -7,7 +7,7 @@ use lib.ListN.{length, take, drop, replicate}
 use Rattle.run.specs.Run.{Out, onOut, evaluateFrom}
 use Rattle.run.specs.Ways.{languageOf}
 use Rattle.elementwise.specs.declared.Step.{Step}
-use Rattle.elementwise.specs.Elementwise.{Tensor, stepOf}
+use Rattle.elementwise.specs.Elementwise.{Tensor, numbersOf, outNumbers}
 use Rattle.ops.specs.Ops.{hlo}
 use Rattle.values.specs.declared.Values.{Values}
 use Rattle.values.specs.Values.{valuesOf}
@@ -38,9 +38,9 @@ pub record Stretch (vs : Values) (n at end room space : ℕ) : Type 0 where
   pub within : end ≤ space
   pub small : end ≤ 8192
 
--- what an op whose stretch is at..end leaves in `done` and in the store: its tensor; where it stops, zeros in the store
-pub record Written (m : Out Tensor ℕ) (at end : ℕ) (r : Step) (done done2 store store2 : List ℕ) : Type 0 where
-  pub answers : r ≡ stepOf m
+-- what the op with this number, whose stretch is at..end, answers and leaves in `done` and in the store: its tensor; where it stops, zeros in the store
+pub record Written (number : ℕ) (m : Out Tensor ℕ) (at end : ℕ) (r : Step) (done done2 store store2 : List ℕ) : Type 0 where
+  pub answers : numbersOf r ≡ outNumbers number m
   pub done-is : done2 ≡ onOut m (λ v. take at done ++ (v ++ drop end done)) (λ w. done)
   pub store-is : store2 ≡ take at store ++ (onOut m (λ v. v) (λ w. replicate (end - at) 0) ++ drop end store)
 

@@ -5,12 +5,12 @@ use mathlib.Core.Path.{_≡_, refl}
 use mathlib.Core.List.{List, [], _∷_, map}
 use Prim.Native.Nat.{ℕ, _^_}
 use lib.IntN.{pos, negℤ}
+use lib.Dec.{eqb}
 use lib.Count.{onesIn, leadingZeros}
+use Rattle.lists.specs.Lists.{pick}
 use Rattle.element.specs.Types.{slotOf, valueOf, wrapTo}
 use Rattle.element.specs.declared.ElementType.the-variants.{I1, I8, I16, I32, I64, U8, U16, U64}
 use Rattle.division.specs.Division.{divisionOf}
-use Rattle.division.specs.declared.Divided.{Divided}
-use Rattle.division.specs.declared.Divided.the-variants.{Value, ByZero}
 use Rattle.division.specs.declared.Division.the-variants.{Divide, Remainder}
 use Rattle.scalar.specs.Ops.{unaryOf, binaryOf, compareOf, clampOf, selectOf, convertOf, iotaOf, addOf, subtractOf, multiplyOf, negateOf, absOf, signOf, ltOf, maximumOf, minimumOf, notOf, countLeadingZerosOf, popcntOf, shiftLeftOf, shiftRightArithmeticOf, shiftRightLogicalOf}
 use Rattle.scalar.specs.declared.Unary.the-variants.{Negate, Abs, Sign, Not, CountLeadingZeros, Popcnt}
@@ -26,9 +26,8 @@ abbrev minus : ℕ → ℕ
 minus k = slotOf (negℤ (pos k))
 
 -- no slot for a zero divisor
-abbrev result : Divided → ℕ
-result (Value v) = v
-result ByZero = 2 ^ 64
+abbrev result : ℕ × ℕ → ℕ
+result (refusal, v) = pick (eqb refusal 0) v (2 ^ 64)
 
 abbrev each : (ℕ → ℕ → ℕ) → List ℕ → List ℕ → List ℕ
 each f [] ys = []

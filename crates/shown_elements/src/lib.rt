@@ -68,9 +68,9 @@ pub fn division(name: &[u8], op: Division, t: ElementType, x: &[u64], y: &[u64],
     requires { ⌜ Held t (length (now out)) (now x) × Held t (length (now out)) (now y) ⌝ }
     ensures { λ _. ⌜ now (out .exit) ≡ leftBy op t (now (x .entry)) (now (y .entry)) (now (out .entry)) ⌝ }
 {
-    let step = elementwise::division_into(op, t, x, y, out);
+    let step = elementwise::division_into(0, op, t, x, y, out);
     match step {
         Step::Filled => show(name, out),
-        Step::Zero(_) => {}
+        Step::Zero(_, _) => {}
     }
 }

@@ -30,7 +30,7 @@ pub fn op_step(
 ) -> Step
     requires { ⌜ Accepts (now text) p vs starts × (k < opsOf p) ⌝ }
     requires { ⌜ Held vs (vs .inputs + k) (now slots) × (length (now out) ≡ sizeAt vs (vs .inputs + k)) ⌝ }
-    ensures { λ r. ⌜ Done (opMeaning (now (text .entry)) k (now (slots .entry))) r (now (out .entry)) (now (out .exit)) ⌝ }
+    ensures { λ r. ⌜ Done k (opMeaning (now (text .entry)) k (now (slots .entry))) r (now (out .entry)) (now (out .exit)) ⌝ }
 {
     let ops = p.ops;
     let op = op_at(text, ops[k]);
@@ -38,5 +38,5 @@ pub fn op_step(
     let kind = kind_of(text, op);
     let literal = literal_of(text, op);
     let places = places_of(text, op, vs, starts, vs.inputs + k);
-    do_op(text, kind, o, literal, places, slots, out)
+    do_op(text, k, kind, o, literal, places, slots, out)
 }

@@ -1,8 +1,8 @@
 use mathlib.Core.Path.{sym, ap, _∙_}
+use Prim.Native.Nat.{ℕ}
 use borrow.Author.Needs.{needs}
 use borrow.Author.Tests.{eq-eqb, ne-eqb}
 use Rattle.division.specs.Division.{divisionOf}
-use Rattle.division.specs.declared.Divided.the-variants.{Value}
 use Rattle.division.proofs.Dispatch.{unsigned-quotient, unsigned-remainder}
 use Rattle.division.proofs.apply_division.Statement.{statement}
 use Rattle.division.proofs.apply_division.Tie as tie
@@ -18,21 +18,21 @@ divide-signed-requires c κs =
 
 returns-2 : tie.Need-returns-2
 unfolding divisionOf
-returns-2 c = simp (ne-eqb _ 0 (c .before .before .before .if1 .left)) (ap Value (c .divide-signed .ensures))
+returns-2 c = simp (ne-eqb _ 0 (c .before .before .before .if1 .left)) (ap (λ (v : ℕ). (0, v)) (c .divide-signed .ensures))
 
 returns-3 : tie.Need-returns-3
 unfolding divisionOf
 returns-3 c =
     let s = c .before .before .before .before .before in
     rw (c .enum-told .given .1, ne-eqb (s .args .b) 0 (c .before .before .before .before .if1 .left))
-    (ap Value (unsigned-quotient (s .args .t) (sym (c .before .before .before .is-signed .ensures) ∙ c .before .before .if2 .left) (s .args .a) (s .args .b) (s .pre .0)))
+    (ap (λ (v : ℕ). (0, v)) (unsigned-quotient (s .args .t) (sym (c .before .before .before .is-signed .ensures) ∙ c .before .before .if2 .left) (s .args .a) (s .args .b) (s .pre .0)))
 
 returns-4 : tie.Need-returns-4
 unfolding divisionOf
 returns-4 c =
     let s = c .before .before .before .before .before in
     rw (c .enum-told2 .given .1, ne-eqb (s .args .b) 0 (c .before .before .before .before .if1 .left))
-    (ap Value (unsigned-remainder (s .args .t) (sym (c .before .before .before .is-signed .ensures) ∙ c .before .before .if2 .left) (s .args .a) (s .args .b) (s .pre .0)))
+    (ap (λ (v : ℕ). (0, v)) (unsigned-remainder (s .args .t) (sym (c .before .before .before .is-signed .ensures) ∙ c .before .before .if2 .left) (s .args .a) (s .args .b) (s .pre .0)))
 
 pub apply-division-spec : {M : Type 1} → statement M
 apply-division-spec =

@@ -1,4 +1,4 @@
-use Rattle.elementwise.proofs.DivideLaw.{either, value-at, zero-here, none-here, zero-at, zero-nowhere}
+use Rattle.elementwise.proofs.DivideLaw.{value-at, zero-here, none-here, zero-at, zero-nowhere}
 use Rattle.elementwise.proofs.FillLaw.{Done, done-none, done-next, done-at}
 use Rattle.elementwise.specs.Elementwise.{isZero, operandAt, divisionAt}
 use Rattle.lists.proofs.SearchLaw.{Passed, passed-none, passed-next}
@@ -12,16 +12,16 @@ use Rattle.elementwise.proofs.division_into.Statement.{statement}
 use Rattle.elementwise.proofs.division_into.Tie as tie
 
 abbrev Inv-loop : tie.InvT-loop
-Inv-loop op t x y out n k pair₀ j₀ pair j = Done (operandAt x y k) pair₀ j pair × (1 < j → isZero (getD y k 0) ≡ false)
+Inv-loop number op t x y out n k pair₀ j₀ pair j = Done (operandAt x y k) pair₀ j pair × (1 < j → isZero (getD y k 0) ≡ false)
 
 abbrev μ-loop : tie.MeasureT-loop
-μ-loop op t x y out n k pair₀ j₀ pair j = 2 - j
+μ-loop number op t x y out n k pair₀ j₀ pair j = 2 - j
 
 abbrev Inv-walk : tie.InvT-walk
-Inv-walk op t x y out₀ n k₀ out k = Done (divisionAt op t x y) out₀ k out × Passed isZero y k
+Inv-walk number op t x y out₀ n k₀ out k = Done (divisionAt op t x y) out₀ k out × Passed isZero y k
 
 abbrev μ-walk : tie.MeasureT-walk
-μ-walk op t x y out₀ n k₀ out k = length out₀ - k
+μ-walk number op t x y out₀ n k₀ out k = length out₀ - k
 
 walk-holds : tie.Need-walk-holds Inv-loop μ-loop Inv-walk μ-walk
 walk-holds c = (done-none, passed-none _ _)
@@ -61,23 +61,18 @@ walk-again c =
 
 returns : tie.Need-returns Inv-loop μ-loop Inv-walk μ-walk
 returns c =
-    let pre = c .before .before .before .before .before .before .pre in
-    let walk = c .before .before .walk .inv in
-    let k = c .before .before .walk .k in
-    let args = c .before .before .before .before .before .before .args in
-    either (c .before .if1 .came)
-    (λ p. absurd (omega (arith, p .1, c .if3 .taken)))
-    (λ p.
-    rw (p .6)
-    (zero-at (pre .1 .sized) k (p .0 .left) (zero-here (args .x .now) (args .y .now) k (p .1 .j) (p .3 .result) (p .3 .ensures) (p .5 .taken) (p .4 .ensures)) (walk .1) (walk .0)))
+    let pre = c .before .before .before .before .before .pre in
+    let walk = c .before .walk .inv in
+    zero-nowhere (pre .1 .sized) (c .if1 .taken) (walk .1) (walk .0)
 
 returns-2 : tie.Need-returns-2 Inv-loop μ-loop Inv-walk μ-walk
 returns-2 c =
-    let pre = c .before .before .before .before .before .before .pre in
-    let walk = c .before .before .walk .inv in
-    either (c .before .if1 .came)
-    (λ p. zero-nowhere (pre .1 .sized) (p .0 .taken) (walk .1) (walk .0))
-    (λ p. absurd (omega (arith, p .6, p .0 .left, c .if3 .left)))
+    let start = c .before .before .before .before .before .before .before .before .before .before in
+    let walk = c .before .before .before .before .before .before .walk in
+    let read = c .before .before .operand-at in
+    zero-at (start .pre .1 .sized) (walk .k) (c .before .before .before .before .before .if1 .left)
+    (zero-here (start .args .x .now) (start .args .y .now) (walk .k) (c .before .before .before .before .loop .j) (read .result) (read .ensures) (c .if2 .taken) (c .before .is-zero-divisor .ensures))
+    (walk .inv .1) (walk .inv .0)
 
 pub division-into-spec : {M : Type 1} → statement M
 division-into-spec =

@@ -10,8 +10,8 @@ use Rattle.inputs.specs.Inputs.{inputSlots}
 use Rattle.steps.proofs.StepsLaw.{few-values}
 use Rattle.evaluation.specs.State.{State}
 use Rattle.evaluation.proofs.RunLaw.{run-start, run-held, run-next, run-stopped, run-within, run-end, run-small}
-use Rattle.evaluate.proofs.run_ops.Statement.{statement}
-use Rattle.evaluate.proofs.run_ops.Tie as tie
+use Rattle.store_ops.proofs.run_ops.Statement.{statement}
+use Rattle.store_ops.proofs.run_ops.Tie as tie
 
 abbrev Inv-loop : tie.InvT-loop
 Inv-loop text p vs needed done₀ store₀ starts n k₀ done store k =
@@ -75,7 +75,7 @@ returns c =
     let i = f .before .before .before in
     let s = i .before .before .before .before .before .before in
     let v = i .before .loop .inv in
-    run-stopped _ _ _ _ (s .pre .0) _ _ _ _ _ (v .3) (below i) _ _ _ (f .fill .ensures) _ _ _ _ (c .before .before .before .before .before .before .step .given .1) (omega (arith, v .2, s .pre .2 .space))
+    run-stopped _ _ _ _ (s .pre .0) _ _ _ _ _ (v .3) (below i) _ _ _ (f .fill .ensures) _ _ _ _ _ (c .before .before .before .before .before .before .step .given .1) (omega (arith, v .2, s .pre .2 .space))
     (c .before .before .zero-from .ensures) (start i) (s .pre .1)
 
 returns-2 : tie.Need-returns-2 Inv-loop μ-loop

@@ -4,8 +4,8 @@ use borrow.Author.Needs.{needs}
 use Rattle.offsets.specs.Offsets.{sizeAt}
 use Rattle.steps.proofs.StepsLaw.{step-holds}
 use Rattle.evaluation.proofs.FillLaw.{stretch-order, lent-length, filled, unfilled}
-use Rattle.evaluate.proofs.fill_at.Statement.{statement}
-use Rattle.evaluate.proofs.fill_at.Tie as tie
+use Rattle.store_ops.proofs.fill_at.Statement.{statement}
+use Rattle.store_ops.proofs.fill_at.Tie as tie
 
 in-order : (s : tie.Start) → (s .args .at ≤ s .args .end) × (s .args .end - s .args .at ≡ sizeAt (s .args .vs) (s .args .vs .inputs + s .args .k))
 in-order s = stretch-order _ _ _ _ _ _ (s .pre .1)
@@ -28,7 +28,7 @@ returns c =
 returns-2 : tie.Need-returns-2
 returns-2 c =
     let s = c .before .before .before .before .before .before .before .before .before .before .before in
-    unfilled (s .args .at) (s .args .end) (s .args .store .now) (in-order s .0) (s .pre .1 .within) (s .args .done .now) _ _ _ _
+    unfilled (s .args .at) (s .args .end) (s .args .store .now) (in-order s .0) (s .pre .1 .within) (s .args .done .now) _ _ _ _ _
     (c .before .before .before .before .before .op-step .ensures) (c .before .step .given .1)
 
 pub fill-at-spec : {M : Type 1} → statement M

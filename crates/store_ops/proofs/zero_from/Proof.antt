@@ -1,7 +1,7 @@
 use borrow.Author.Needs.{needs}
 use Rattle.evaluation.proofs.FillLaw.{zeros-put}
-use Rattle.evaluate.proofs.zero_from.Statement.{statement}
-use Rattle.evaluate.proofs.zero_from.Tie as tie
+use Rattle.store_ops.proofs.zero_from.Statement.{statement}
+use Rattle.store_ops.proofs.zero_from.Tie as tie
 
 returns : tie.Need-returns
 returns c =

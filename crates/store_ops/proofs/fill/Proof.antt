@@ -6,8 +6,8 @@ use Rattle.offsets.proofs.OffsetsLaw.{offset-read}
 use Rattle.steps.proofs.StepsLaw.{few-values, step-read, step-counted}
 use Rattle.evaluation.specs.State.{Stretch}
 use Rattle.evaluation.proofs.FillLaw.{stretch-of, written-as}
-use Rattle.evaluate.proofs.fill.Statement.{statement}
-use Rattle.evaluate.proofs.fill.Tie as tie
+use Rattle.store_ops.proofs.fill.Statement.{statement}
+use Rattle.store_ops.proofs.fill.Tie as tie
 
 -- at most 256 ops and 8 inputs
 few : (s : tie.Start) → (s .args .k < 256) × (s .args .vs .inputs ≤ 8)
