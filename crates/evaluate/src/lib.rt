@@ -119,7 +119,7 @@ fn run_text(text: &[u8], inputs: &[u64], store: &mut [u64]) -> Refusal
 // nothing to the order of work.
 pub fn evaluate(text: &[u8], inputs: &[u64], store: &mut [u64]) -> Refusal
     ensures { λ r. ⌜ answer r (now (store .exit)) ≡ evaluated (now (text .entry)) (now (inputs .entry)) (now (store .entry)) ⌝ }
-    ensures { λ r. ⌜ OrderFreeAnswer (now (text .entry)) (now (inputs .entry)) (answer r (now (store .exit))) ⌝ }
+    ensures { λ r. ⌜ OrderFreeAnswer (now (text .entry)) (now (inputs .entry)) (r .number) (now (store .exit)) ⌝ }
 {
     run_text(text, inputs, store)
 }

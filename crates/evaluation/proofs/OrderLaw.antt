@@ -14,7 +14,7 @@ use Rattle.lists.specs.Lists.{pick, All, concat}
 use Rattle.lists.proofs.TabLaw.{getD-tab, length-tab}
 use Rattle.lists.proofs.AllLaw.{all-map}
 use Rattle.run.specs.Run.{Out, gives, stops, Answer, results, stopped, End, ended, Claim, evaluateFrom}
-use Rattle.run.specs.Ways.{languageOf}
+use Rattle.run.specs.Ways.{languageOf, freeRun}
 use Rattle.elementwise.specs.Elementwise.{Tensor}
 use Rattle.ops.specs.Ops.{Node, hlo}
 use Rattle.ops.specs.Typed.{HoldAll}
@@ -122,7 +122,7 @@ module _ (text : List ℕ) (e : End Tensor ℕ) where
 
   -- what evaluating says of a free run's end is what the answer claims
   claimed-answer : verdict text .number ≡ 0 → (needed : ℕ) (old : List ℕ) (a : Answer Tensor ℕ) → Kept text a
-      → Claim (languageOf hlo) (nodesOf text .returns) a e → Claimed text (answer (refusalOf a) (storeAfter needed a old)) e
+      → Claim (languageOf hlo) (nodesOf text .returns) a e → Claimed text (refusalOf a .number) (storeAfter needed a old) e
   claimed-answer z needed old (results ts) kept c =
       let store : List ℕ = concat ts ++ drop needed old in
       let is : tensorsIn vs store n ≡ ts = tensors-stored ts kept (drop needed old) in
@@ -136,36 +136,42 @@ module _ (text : List ℕ) (e : End Tensor ℕ) where
   claimed-answer z needed old (stopped ts k w) kept c =
       record { values = λ q. absurd (omega arith); returned = λ q. absurd (omega arith); zero-divisor = λ q. c }
 
+  -- of an answer and the store with it
+  abbrev ClaimedBy : Evaluated → Type 0
+  ClaimedBy x = Claimed text (x .refusal .number) (x .store) e
+
   -- refusals 1 to 11 claim nothing
-  claimed-none : (r : Refusal) (store : List ℕ) → (r .number ≡ 0 → ⊥) → (r .number ≡ 12 → ⊥) → Claimed text (answer r store) e
-  claimed-none r store a b = record { values = λ q. absurd (a q); returned = λ q. absurd (a q); zero-divisor = λ q. absurd (b q) }
+  claimed-none : (number : ℕ) (store : List ℕ) → (number ≡ 0 → ⊥) → (number ≡ 12 → ⊥) → Claimed text number store e
+  claimed-none number store a b = record { values = λ q. absurd (a q); returned = λ q. absurd (a q); zero-divisor = λ q. absurd (b q) }
 
   -- of an accepted text: where inputs and store fit the answer is evaluating's, else one of refusals 9, 10 and 11
   claimed-fitted : (inputs old : List ℕ)
-      → (length inputs ≡ inputSlots vs → firstForeign vs inputs ≡ inputSlots vs → Claimed text (ran text inputs old) e) → Claimed text (fitted text inputs old) e
+      → (length inputs ≡ inputSlots vs → firstForeign vs inputs ≡ inputSlots vs → ClaimedBy (ran text inputs old)) → ClaimedBy (fitted text inputs old)
   unfolding fitted firstForeign
   claimed-fitted inputs old ran-claimed =
-      few (ltb (length old) (neededOf vs)) (other (eqb (length inputs) (inputSlots vs)) refl)
+      few (ltb (length old) (neededOf vs)) _ (other (eqb (length inputs) (inputSlots vs)) refl)
     where
-      few : (b : Bool) {x : Evaluated} → Claimed text x e → Claimed text (pick b (answer (refuse 9 (neededOf vs) 0) old) x) e
-      few true c = claimed-none _ old (λ q. omega arith) (λ q. omega arith)
-      few false c = c
+      few : (b : Bool) (x : Evaluated) → ClaimedBy x → ClaimedBy (pick b (answer (refuse 9 (neededOf vs) 0) old) x)
+      few true x c = claimed-none _ old (λ q. omega arith) (λ q. omega arith)
+      few false x c = c
 
       foreign : length inputs ≡ inputSlots vs → (b : Bool) → ltb (firstForeign vs inputs) (inputSlots vs) ≡ b
-          → Claimed text (pick b (answer (refuse 11 (firstForeign vs inputs) 0) old) (ran text inputs old)) e
+          → ClaimedBy (pick b (answer (refuse 11 (firstForeign vs inputs) 0) old) (ran text inputs old))
       foreign full true q = claimed-none _ old (λ q. omega arith) (λ q. omega arith)
       foreign full false q =
           ran-claimed full (omega (arith, failing-le (inputSlots vs) (slotFits vs inputs), ltb-false (firstForeign vs inputs) (inputSlots vs) q))
 
-      other : (b : Bool) → eqb (length inputs) (inputSlots vs) ≡ b → Claimed text (pick (not b) (answer (refuse 10 (inputSlots vs) 0) old)
-          (pick (ltb (firstForeign vs inputs) (inputSlots vs)) (answer (refuse 11 (firstForeign vs inputs) 0) old) (ran text inputs old))) e
+      other : (b : Bool) → eqb (length inputs) (inputSlots vs) ≡ b → ClaimedBy (pick (not b) (answer (refuse 10 (inputSlots vs) 0) old)
+          (pick (ltb (firstForeign vs inputs) (inputSlots vs)) (answer (refuse 11 (firstForeign vs inputs) 0) old) (ran text inputs old)))
       other true q = foreign (eqb-true (length inputs) (inputSlots vs) q) (ltb (firstForeign vs inputs) (inputSlots vs)) refl
       other false q = claimed-none _ old (λ q. omega arith) (λ q. omega arith)
 
--- demand 3 holds of every answer of the bench
-pub order-free-answer : (text inputs old : List ℕ) → OrderFreeAnswer text inputs (evaluated text inputs old)
+-- demand 3 holds of every answer of the bench: of the refusal r and the store with it
+pub order-free-answer : (text inputs old : List ℕ) (r : Refusal) (store : List ℕ) → answer r store ≡ evaluated text inputs old → OrderFreeAnswer text inputs (r .number) store
 unfolding OrderFreeAnswer evaluated ran evaluationOf
-order-free-answer text inputs old e starts order o trees t =
-    rw (eq-eqb (verdict text .number) 0 e) (claimed-fitted text _ inputs old (λ full none.
-    claimed-answer text _ e (neededOf (valuesOf text)) old (evaluationOf text inputs) (evaluation-kept text inputs full none e)
-    (text-order-free text e starts (tensorsOf text inputs) (inputs-typed text inputs full none) 0 order o trees t)))
+order-free-answer text inputs old r store is e starts order o trees t =
+    let end : End Tensor ℕ = freeRun hlo (nodesOf text) (tensorsOf text inputs) order trees 0 in
+    subst (ClaimedBy text end) (sym is)
+    (rw (eq-eqb (verdict text .number) 0 e) (claimed-fitted text end inputs old (λ full none.
+    claimed-answer text end e (neededOf (valuesOf text)) old (evaluationOf text inputs) (evaluation-kept text inputs full none e)
+    (text-order-free text e starts (tensorsOf text inputs) (inputs-typed text inputs full none) 0 order o trees t))))

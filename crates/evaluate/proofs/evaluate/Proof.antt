@@ -1,6 +1,4 @@
-use mathlib.Core.Path.{sym, subst}
 use borrow.Author.Needs.{needs}
-use Rattle.evaluation.specs.Order.{OrderFreeAnswer}
 use Rattle.evaluation.proofs.OrderLaw.{order-free-answer}
 use Rattle.evaluate.proofs.evaluate.Statement.{statement}
 use Rattle.evaluate.proofs.evaluate.Tie as tie
@@ -8,7 +6,7 @@ use Rattle.evaluate.proofs.evaluate.Tie as tie
 returns : tie.Need-returns
 returns c =
     let e = c .before .before .run-text .ensures in
-    (e, subst (OrderFreeAnswer _ _) (sym e) (order-free-answer _ _ _))
+    (e, order-free-answer _ _ _ _ _ e)
 
 pub evaluate-spec : {M : Type 1} → statement M
 evaluate-spec = tie.close (tie.spec (λ c κs. search needs) (λ c. search needs) returns)
