@@ -1,5 +1,6 @@
-//! Generated cases: valid programs over all ops, single faults of every kind, evaluations at their
-//! edges and mutated texts. A case depends on nothing but the seed and its number.
+//! Generated cases, in two families: valid programs over all ops, single faults of every kind, evaluations
+//! at their edges and mutated texts; and programs near the sizes of elements and ops (`limits`). A case
+//! depends on nothing but its family, the seed and its number.
 //!
 //! Most cases carry the answer that the papers give them, worked out from how they were made and not
 //! by the evaluator, so that the evaluator can be held against it.
@@ -7,6 +8,7 @@
 mod broken;
 mod build;
 mod edges;
+mod limits;
 mod model;
 mod mutate;
 mod names;
@@ -58,6 +60,32 @@ pub struct Generated {
     pub expected: Expected,
 }
 
+/// A family of cases.
+#[derive(Clone, Copy, PartialEq, Eq, Debug)]
+pub enum Family {
+    /// Cases of every kind.
+    General,
+    /// Programs near sizes 3 and 4, with ops that write no result type or several.
+    Limits,
+}
+
+impl Family {
+    /// The family that a command's last word names.
+    pub fn named(word: &str) -> Result<Family, String> {
+        match word {
+            "limits" => Ok(Family::Limits),
+            _ => Err(format!("`{}` is no family of cases (there is `limits`)", word.escape_default())),
+        }
+    }
+
+    fn kinds(self) -> &'static [Kind] {
+        match self {
+            Family::General => &KINDS,
+            Family::Limits => &limits::KINDS,
+        }
+    }
+}
+
 /// A kind of case: its share of 1,000, its name and its maker.
 type Kind = (u64, &'static str, fn(&mut Random) -> (Case, Expected));
 
@@ -82,13 +110,14 @@ const KINDS: [Kind; 18] = [
     (3, "deep text", deep_text),
 ];
 
-/// Case number `index` under `seed`.
-pub fn generate(seed: u64, index: u64) -> Generated {
+/// Case number `index` of a family under `seed`.
+pub fn generate(family: Family, seed: u64, index: u64) -> Generated {
     let mut random = Random::for_case(seed, index);
-    let whole = KINDS.iter().map(|kind| kind.0).sum();
+    let kinds = family.kinds();
+    let whole = kinds.iter().map(|kind| kind.0).sum();
     let mut drawn = random.below(whole);
-    for (share, kind, make) in KINDS {
-        if drawn < share {
+    for (share, kind, make) in kinds {
+        if drawn < *share {
             let (case, expected) = make(&mut random);
             return Generated { kind, case, expected };
         }
@@ -97,20 +126,31 @@ pub fn generate(seed: u64, index: u64) -> Generated {
     unreachable!("the shares add up to the whole")
 }
 
-/// `cases SEED COUNT`.
+/// `cases SEED COUNT` or `cases SEED COUNT FAMILY`.
 pub fn command(arguments: &[String]) -> Result<u8, String> {
-    let (seed, count) = seed_and_count(arguments, "cases")?;
+    let (family, seed, count) = family_seed_count(arguments, "cases")?;
     let mut output = std::io::BufWriter::new(std::io::stdout().lock());
-    write(&mut output, seed, count).map_err(|error| error.to_string())?;
+    write(&mut output, family, seed, count).map_err(|error| error.to_string())?;
     Ok(0)
 }
 
-/// The first `count` cases in the stream form.
-pub fn write(output: &mut dyn Write, seed: u64, count: u64) -> std::io::Result<()> {
+/// The first `count` cases of a family in the stream form.
+pub fn write(output: &mut dyn Write, family: Family, seed: u64, count: u64) -> std::io::Result<()> {
     for index in 0..count {
-        stream::write_case(output, &generate(seed, index).case)?;
+        stream::write_case(output, &generate(family, seed, index).case)?;
     }
     output.flush()
+}
+
+/// The two numbers of a command, and the family that a third word names.
+pub fn family_seed_count(arguments: &[String], name: &str) -> Result<(Family, u64, u64), String> {
+    let (numbers, family) = match arguments {
+        [_, _] => (arguments, Family::General),
+        [_, _, word] => (&arguments[..2], Family::named(word)?),
+        _ => return Err(format!("expected `{name} SEED COUNT` or `{name} SEED COUNT limits`")),
+    };
+    let (seed, count) = seed_and_count(numbers, name)?;
+    Ok((family, seed, count))
 }
 
 /// The two numbers of a command.

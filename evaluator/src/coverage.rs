@@ -1,14 +1,15 @@
 //! The coverage of generated cases: how often each refusal, each size number, each op of accepted
 //! programs and each constraint number of each op occurs.
 
-use crate::cases::{self, OPS, PAIRS};
+use crate::cases::{self, Family, OPS, PAIRS};
 use crate::stream::{old_store, Case};
 use crate::Answer;
 use std::collections::BTreeMap;
 
-/// What was counted, each with a name of its own.
-#[derive(Clone, Debug, Default)]
+/// What was counted of a family's cases, each with a name of its own.
+#[derive(Clone, Debug)]
 pub struct Coverage {
+    family: Family,
     counts: BTreeMap<String, u64>,
 }
 
@@ -29,11 +30,11 @@ fn constraint_name(mnemonic: &str, c: u64) -> String {
 }
 
 impl Coverage {
-    /// The coverage of the first `count` cases under `seed`.
-    pub fn of(seed: u64, count: u64) -> Coverage {
-        let mut coverage = Coverage::default();
+    /// The coverage of the first `count` cases of a family under `seed`.
+    pub fn of(family: Family, seed: u64, count: u64) -> Coverage {
+        let mut coverage = Coverage { family, counts: BTreeMap::new() };
         for index in 0..count {
-            let case = cases::generate(seed, index).case;
+            let case = cases::generate(family, seed, index).case;
             let mut store = old_store(case.seed, case.store_length);
             let answer = crate::evaluate(&case.text, &case.inputs, &mut store);
             coverage.add(&case, answer);
@@ -67,10 +68,15 @@ impl Coverage {
         self.count(constraint_name(name, answer.b));
     }
 
-    /// Everything that can occur, in the order in which it is printed.
-    pub fn possible() -> Vec<String> {
-        let refusals = (0..=12).map(refusal_name);
-        let sizes = (1..=8).map(size_name);
+    /// Everything that has to occur in a family, in the order in which it is printed. Near sizes 3 and 4 a
+    /// text may be refused for any reason, where its tokens were mutated, but only those two have to occur.
+    pub fn wanted(family: Family) -> Vec<String> {
+        let (refusals, sizes): (Vec<u64>, Vec<u64>) = match family {
+            Family::General => ((0..=12).collect(), (1..=8).collect()),
+            Family::Limits => ([0].into_iter().chain(4..=12).collect(), vec![3, 4]),
+        };
+        let refusals = refusals.into_iter().map(refusal_name);
+        let sizes = sizes.into_iter().map(size_name);
         let ops = OPS.iter().map(|op| op_name(op));
         let constraints = PAIRS.iter().map(|(op, c)| constraint_name(op, *c));
         refusals.chain(sizes).chain(ops).chain(constraints).collect()
@@ -80,14 +86,14 @@ impl Coverage {
         self.counts.get(name).copied().unwrap_or(0)
     }
 
-    /// What can occur and did not.
+    /// What has to occur and did not.
     pub fn missing(&self) -> Vec<String> {
-        Coverage::possible().into_iter().filter(|name| self.occurred(name) == 0).collect()
+        Coverage::wanted(self.family).into_iter().filter(|name| self.occurred(name) == 0).collect()
     }
 
-    /// What occurred although it cannot.
+    /// What occurred although no case can have it.
     pub fn unforeseen(&self) -> Vec<String> {
-        let possible = Coverage::possible();
+        let possible = Coverage::wanted(Family::General);
         self.counts.keys().filter(|name| !possible.contains(name)).cloned().collect()
     }
 }
@@ -97,11 +103,12 @@ fn short(name: &'static str) -> &'static str {
     name.strip_prefix("stablehlo.").unwrap_or(name)
 }
 
-/// `coverage SEED COUNT`: one line each; exit status 1 where one that can occur does not.
+/// `coverage SEED COUNT` or `coverage SEED COUNT FAMILY`: one line each; exit status 1 where one that has to
+/// occur does not.
 pub fn command(arguments: &[String]) -> Result<u8, String> {
-    let (seed, count) = cases::seed_and_count(arguments, "coverage")?;
-    let coverage = Coverage::of(seed, count);
-    for name in Coverage::possible() {
+    let (family, seed, count) = cases::family_seed_count(arguments, "coverage")?;
+    let coverage = Coverage::of(family, seed, count);
+    for name in Coverage::wanted(family) {
         println!("{name}: {}", coverage.occurred(&name));
     }
     for name in coverage.unforeseen() {

@@ -5,7 +5,7 @@ use std::io::{BufRead, Read, Write};
 use std::process::ExitCode;
 
 const USAGE: &str =
-    "usage: evaluator evaluate | ops [all] | stream | cases SEED COUNT | coverage SEED COUNT | free SEED COUNT";
+    "usage: evaluator evaluate | ops [all] | stream | cases SEED COUNT [limits] | coverage SEED COUNT [limits] | free SEED COUNT";
 
 fn main() -> ExitCode {
     let arguments: Vec<String> = std::env::args_os().skip(1).map(|word| word.to_string_lossy().into_owned()).collect();

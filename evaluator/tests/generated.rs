@@ -1,7 +1,7 @@
 //! The generated cases: determinism, coverage, the answers that the papers give them, free runs; and
 //! every op on elements over all values of 8 bits against the machine's own arithmetic.
 
-use evaluator::cases::{self, Generated, OPS};
+use evaluator::cases::{self, Family, Generated, OPS};
 use evaluator::coverage::Coverage;
 use evaluator::freecheck;
 use evaluator::stream::{old_store, read_case};
@@ -10,9 +10,11 @@ use std::collections::BTreeSet;
 
 const SEED: u64 = 1;
 
-fn stream_of(seed: u64, count: u64) -> Vec<u8> {
+const FAMILIES: [Family; 2] = [Family::General, Family::Limits];
+
+fn stream_of(family: Family, seed: u64, count: u64) -> Vec<u8> {
     let mut bytes = Vec::new();
-    cases::write(&mut bytes, seed, count).expect("a vector takes every byte");
+    cases::write(&mut bytes, family, seed, count).expect("a vector takes every byte");
     bytes
 }
 
@@ -23,40 +25,48 @@ fn hash(bytes: &[u8]) -> u64 {
 
 #[test]
 fn the_same_seed_gives_the_same_cases() {
-    assert_eq!(stream_of(7, 300), stream_of(7, 300));
-    assert_ne!(stream_of(7, 30), stream_of(8, 30));
-    assert!(stream_of(7, 300).starts_with(&stream_of(7, 100)));
+    for family in FAMILIES {
+        assert_eq!(stream_of(family, 7, 300), stream_of(family, 7, 300));
+        assert_ne!(stream_of(family, 7, 30), stream_of(family, 8, 30));
+        assert!(stream_of(family, 7, 300).starts_with(&stream_of(family, 7, 100)));
+    }
+    assert_ne!(stream_of(Family::General, 7, 30), stream_of(Family::Limits, 7, 30));
 }
 
-/// A change of the generator is noticed here: the hash of the first 1,000 cases of seed 1.
+/// A change of the generator is noticed here: the hash of the first 1,000 cases of seed 1 of each family.
 #[test]
 fn the_first_cases_are_known() {
-    assert_eq!(format!("{:016x}", hash(&stream_of(SEED, 1000))), "6f9887d92c1fd3ae");
+    let known = |family| format!("{:016x}", hash(&stream_of(family, SEED, 1000)));
+    assert_eq!(FAMILIES.map(known), ["2948d0fb62c51beb", "e7a7997baf4f236a"]);
 }
 
 #[test]
 fn the_stream_can_be_read_back() {
-    let bytes = stream_of(3, 400);
-    let mut input = &bytes[..];
-    for index in 0..400 {
-        let read = read_case(&mut input).expect("the stream is in the form").expect("a case is there");
-        assert_eq!(read, cases::generate(3, index).case);
+    for family in FAMILIES {
+        let bytes = stream_of(family, 3, 400);
+        let mut input = &bytes[..];
+        for index in 0..400 {
+            let read = read_case(&mut input).expect("the stream is in the form").expect("a case is there");
+            assert_eq!(read, cases::generate(family, 3, index).case);
+        }
+        assert_eq!(read_case(&mut input), Ok(None));
     }
-    assert_eq!(read_case(&mut input), Ok(None));
 }
 
 // ---- Coverage ----
 
 #[test]
 fn ten_thousand_cases_reach_everything() {
-    let coverage = Coverage::of(SEED, 10_000);
-    assert_eq!(coverage.missing(), Vec::<String>::new());
-    assert_eq!(coverage.unforeseen(), Vec::<String>::new());
+    for family in FAMILIES {
+        let coverage = Coverage::of(family, SEED, 10_000);
+        assert_eq!(coverage.missing(), Vec::<String>::new());
+        assert_eq!(coverage.unforeseen(), Vec::<String>::new());
+    }
 }
 
 #[test]
 fn a_few_cases_do_not_reach_everything() {
-    assert!(Coverage::of(SEED, 20).missing().len() > 20);
+    assert!(Coverage::of(Family::General, SEED, 20).missing().len() > 20);
 }
 
 const ELEMENTS: [&str; 9] = ["i1", "i8", "i16", "i32", "i64", "ui8", "ui16", "ui32", "ui64"];
@@ -86,7 +96,7 @@ fn result_ranks(mnemonic: &str) -> std::ops::RangeInclusive<usize> {
 fn every_op_meets_its_element_types_and_ranks() {
     let mut met = BTreeSet::new();
     for index in 0..10_000 {
-        let case = cases::generate(SEED, index).case;
+        let case = cases::generate(Family::General, SEED, index).case;
         let Ok(program) = evaluator::accept(&case.text) else { continue };
         for op in &program.ops {
             let mnemonic = op.mnemonic.name().trim_start_matches("stablehlo.");
@@ -134,8 +144,10 @@ fn first_faults(list: impl Iterator<Item = Generated>) -> Vec<String> {
 
 #[test]
 fn answers_are_those_of_the_papers() {
-    let faults = first_faults((0..10_000).map(|index| cases::generate(SEED, index)));
-    assert!(faults.is_empty(), "{}", faults.join("\n----\n"));
+    for family in FAMILIES {
+        let faults = first_faults((0..10_000).map(|index| cases::generate(family, SEED, index)));
+        assert!(faults.is_empty(), "{}", faults.join("\n----\n"));
+    }
 }
 
 #[test]

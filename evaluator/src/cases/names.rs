@@ -65,15 +65,20 @@ fn any_op(b: &mut Builder) -> Op {
 }
 
 /// A reduction whose result has a name of its own.
-fn reduce_with_own_names(b: &mut Builder) -> Op {
+pub fn reduce_with_own_names(b: &mut Builder) -> Op {
     let mut op = b.make("reduce");
     op.results[0] = b.fresh();
     op
 }
 
 /// A name that no value has.
-fn unknown_name(b: &mut Builder) -> String {
+pub fn unknown_name(b: &mut Builder) -> String {
     b.random.pick(&["%undefined", "%9999999", "%_", "%Z", "%0000"]).to_string()
+}
+
+/// The name of an earlier value.
+pub fn reused_name(b: &mut Builder) -> String {
+    b.random.pick(&b.values).0.clone()
 }
 
 fn not_defined(mut b: Builder, mut op: Op) -> (Function, u64, Spot) {
@@ -108,7 +113,7 @@ fn used_before(mut b: Builder, mut op: Op) -> (Function, u64, Spot) {
 }
 
 fn defined_twice(mut b: Builder, mut op: Op) -> (Function, u64, Spot) {
-    let earlier = b.random.pick(&b.values).0.clone();
+    let earlier = reused_name(&mut b);
     match b.random.below(4) {
         0 => {
             let mut twin = b.random.pick(&b.values).clone();
@@ -138,7 +143,7 @@ fn defined_twice(mut b: Builder, mut op: Op) -> (Function, u64, Spot) {
 }
 
 /// A fault inside the body of a reduction, or a use of a body's name after it.
-fn fault_in_body(b: &mut Builder, op: &mut Op) -> (u64, Spot) {
+pub fn fault_in_body(b: &mut Builder, op: &mut Op) -> (u64, Spot) {
     let outer = b.random.pick(&b.values).0.clone();
     let own = op.results[0].clone();
     let unknown = unknown_name(b);

@@ -134,7 +134,7 @@ pub fn total(random: &mut Random, beyond: bool) -> Passed {
 }
 
 /// A constant of one literal.
-fn splat(b: &mut Builder, tensor: &Type) -> Value {
+pub fn splat(b: &mut Builder, tensor: &Type) -> Value {
     let one = values(b.random, &Type::scalar(tensor.element))[0];
     let name = b.fresh();
     let mut op = Op::plain("constant", &name, tensor);
@@ -162,10 +162,10 @@ pub fn many_ops(random: &mut Random, beyond: bool) -> Passed {
 }
 
 /// Ops whose text is short, so that 257 of them fit into a text.
-const SHORT: [&str; 8] = ["not", "and", "or", "xor", "add", "maximum", "minimum", "multiply"];
+pub const SHORT: [&str; 8] = ["not", "and", "or", "xor", "add", "maximum", "minimum", "multiply"];
 
 /// The quoted names written for an op, those in bodies included.
-fn op_names(op: &Op) -> usize {
+pub fn op_names(op: &Op) -> usize {
     let inner: usize = op.bodies.iter().map(|body| 1 + body.ops.iter().map(op_names).sum::<usize>()).sum();
     1 + inner
 }

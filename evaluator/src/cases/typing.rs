@@ -2,7 +2,7 @@
 //! a reduction's body or at the return.
 
 use super::broken::taken;
-use super::build::{choice, Builder, Value, OPS};
+use super::build::{choice, Builder, Value, DIRECTIONS, OPS};
 use super::model::{Attr, Attribute, Body, Dense, Element, Function, Literal, Op, Type, I1, I64, UI8};
 use super::values::{any_element, element, integer, other_element, other_shape};
 
@@ -11,12 +11,18 @@ pub fn faulty(mut builder: Builder) -> (Function, usize) {
     if builder.random.chance(1, 8) {
         return faulty_return(builder);
     }
+    let op = faulty_op(&mut builder);
+    let place = builder.ops.len();
+    builder.ops.push(op);
+    (after_fault(builder), place)
+}
+
+/// An op with a fault of typing, not yet added.
+pub fn faulty_op(builder: &mut Builder) -> Op {
     for _ in 0..200 {
         let mark = builder.mark();
-        if let Some(op) = faulty_op(&mut builder) {
-            let place = builder.ops.len();
-            builder.ops.push(op);
-            return (after_fault(builder), place);
+        if let Some(op) = drawn_fault(builder) {
+            return op;
         }
         builder.reset(mark);
     }
@@ -34,8 +40,8 @@ fn after_fault(mut builder: Builder) -> Function {
 }
 
 /// An op with a fault of typing, or nothing where the op drawn cannot have the fault drawn.
-fn faulty_op(b: &mut Builder) -> Option<Op> {
-    match b.random.below(14) {
+fn drawn_fault(b: &mut Builder) -> Option<Op> {
+    match b.random.below(15) {
         0 => wrong_operand_count(b),
         1 => wrong_results(b),
         2 => wrong_bodies(b),
@@ -48,6 +54,7 @@ fn faulty_op(b: &mut Builder) -> Option<Op> {
         9 => wrong_dense(b),
         10 => element_not_taken(b),
         11 => rank_not_taken(b),
+        12 => choice_of_other_kind(b),
         _ => wrong_body(b),
     }
 }
@@ -219,18 +226,17 @@ fn attribute_foreign(b: &mut Builder) -> Option<Op> {
     Some(op)
 }
 
-/// A value of another of the four forms, or a choice of the other kind (OP-27).
+/// A value of another of the four forms.
 fn attribute_kind(b: &mut Builder) -> Option<Op> {
     let mut op = op_with_attributes(b);
     let place = b.random.place(op.attributes.len());
     let attribute = &mut op.attributes[place];
-    let other = match b.random.below(6) {
+    let other = match b.random.below(5) {
         0 => Attr::Number(0),
         1 => Attr::List(vec![0]),
         2 => Attr::Dense(Dense::List(vec![Dense::One(Literal::Number(0))]), Type::new(I64, &[1])),
         3 => choice("comparison_type", "SIGNED"),
-        4 => choice("comparison_direction", "EQ"),
-        _ => crossed_choice(attribute)?,
+        _ => choice("comparison_direction", "EQ"),
     };
     if same_kind(&attribute.value, &other) {
         return None;
@@ -239,13 +245,22 @@ fn attribute_kind(b: &mut Builder) -> Option<Op> {
     Some(op)
 }
 
-/// `#stablehlo<comparison_direction SIGNED>` or `#stablehlo<comparison_type LT>`.
-fn crossed_choice(attribute: &Attribute) -> Option<Attr> {
-    match attribute.name.as_str() {
-        "comparison_direction" => Some(choice("comparison_direction", "UNSIGNED")),
-        "compare_type" => Some(choice("comparison_type", "GE")),
-        _ => None,
-    }
+/// A choice of the other kind, with a word of either, or of its own kind with a word of the other (OP-27):
+/// `comparison_direction = #stablehlo<comparison_type SIGNED>`, `#stablehlo<comparison_direction SIGNED>`.
+fn choice_of_other_kind(b: &mut Builder) -> Option<Op> {
+    let mut op = b.make("compare");
+    let directions = ("comparison_direction", *b.random.pick(&DIRECTIONS));
+    let types = ("comparison_type", *b.random.pick(&["SIGNED", "UNSIGNED"]));
+    let way = b.random.below(3);
+    let place = b.random.place(op.attributes.len());
+    let attribute = &mut op.attributes[place];
+    let (own, other) = if attribute.name == "comparison_direction" { (directions, types) } else { (types, directions) };
+    attribute.value = match way {
+        0 => choice(other.0, other.1),
+        1 => choice(other.0, own.1),
+        _ => choice(own.0, other.1),
+    };
+    Some(op)
 }
 
 fn same_kind(one: &Attr, other: &Attr) -> bool {

@@ -76,12 +76,36 @@ fn bad_arguments() {
         &["cases"],
         &["cases", "1"],
         &["cases", "x", "1"],
+        &["cases", "1", "1", "LIMITS"],
+        &["cases", "1", "1", ""],
+        &["cases", "1", "1", "1"],
+        &["cases", "limits", "1", "1"],
+        &["cases", "1", "limits"],
+        &["cases", "1", "1", "limits", "limits"],
+        &["coverage", "1", "1", "FAMILY"],
+        &["free", "1", "1", "limits"],
         &["coverage", "1", "-1"],
         &["free", "1", "2", "3"],
     ] {
         let output = refused(arguments, b"");
         assert!(output.stdout.is_empty());
     }
+}
+
+#[test]
+fn cases_of_a_family() {
+    for arguments in [&["cases", "1", "3"][..], &["cases", "1", "3", "limits"]] {
+        let output = program(arguments, b"");
+        assert_eq!((output.status.code(), output.stderr.len()), (Some(0), 0));
+        let mut input = &output.stdout[..];
+        let mut count = 0;
+        while read_case(&mut input).unwrap().is_some() {
+            count += 1;
+        }
+        assert_eq!(count, 3);
+    }
+    let (general, limits) = (program(&["cases", "1", "3"], b""), program(&["cases", "1", "3", "limits"], b""));
+    assert_ne!(general.stdout, limits.stdout);
 }
 
 fn case(text: &str, inputs: &[u64], store_length: usize, seed: u64) -> Case {

@@ -113,6 +113,47 @@ fn op_by_op() {
     answers(&text, 8, 0, 1);
 }
 
+/// Inputs of just 8,192 elements, and ops that write no result type: they add none, so reading passes the text
+/// and each op's own fault answers.
+#[test]
+fn at_the_limit_of_elements_the_first_fault_answers() {
+    let full = "%a: tensor<4096xi8>, %b: tensor<4096xi8>";
+    let none = "\"stablehlo.add\"() : () -> ()\n";
+    refused_at_mark(&function(full, "\"stablehlo.add\"(§%z) : (tensor<i8>) -> ()"), 5, 0);
+    refused_at_mark(&function(full, "§%a = \"stablehlo.add\"() : () -> ()"), 6, 0);
+    refused_at_mark(&function(full, "%r, §%r = \"stablehlo.add\"() : () -> ()"), 6, 0);
+    answers(&function(full, none), 7, 0, 0);
+    answers(
+        &function(full, &format!("%r = \"stablehlo.not\"(%a) : (tensor<4096xi8>) -> tensor<0xi8>\n{none}")),
+        8,
+        0,
+        1,
+    );
+    refused_at_mark(&function("%a: tensor<4096xi8>, §%a: tensor<4096xi8>", none), 6, 0);
+    refused_at_mark(&function(full, &format!("{none}\"stablehlo.add\"() : () -> §tensor<1xi8>")), 4, 3);
+    let body = "({^b(%x: tensor<i8>): \"stablehlo.return\"(§%z) : (tensor<i8>) -> ()})";
+    refused_at_mark(&function(full, &format!("\"stablehlo.reduce\"() {body} : () -> ()")), 5, 0);
+}
+
+/// The same at 256 ops, which are counted whatever they write.
+#[test]
+fn at_the_limit_of_ops_the_first_fault_answers() {
+    let none = |count: usize| "\"stablehlo.add\"() : () -> ()\n".repeat(count);
+    refused_at_mark(&function("", &format!("\"stablehlo.add\"(§%z) : (tensor<i8>) -> ()\n{}", none(255))), 5, 0);
+    answers(&function("", &none(256)), 7, 0, 0);
+    refused_at_mark(&function("", &format!("{}§{}", none(256), none(1))), 4, 4);
+    refused_at_mark(&function("", &format!("{}%r = §{}", none(256), none(1))), 4, 4);
+}
+
+/// A return's results are judged as those of an op: names first, then their number.
+#[test]
+fn the_results_of_a_return() {
+    refused_at_mark("func.func @m(%a: tensor<i8>) {§%a = \"func.return\"() : () -> ()}", 6, 0);
+    refused_at_mark("func.func @m() {%r, §%r = \"func.return\"() : () -> ()}", 6, 0);
+    answers("func.func @m() {%r = \"func.return\"() : () -> ()}", 7, 0, 0);
+    answers("func.func @m() {\"func.return\"() : () -> tensor<i8>}", 7, 0, 0);
+}
+
 #[test]
 fn in_an_op_names_before_7_before_8() {
     // A wrong number of operands, one of them undefined.
