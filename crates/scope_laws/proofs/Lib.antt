@@ -1,5 +1,5 @@
-pub mod QuietLaw
+pub mod OuterScopeLaw
 pub mod DefinedLaw
 pub mod OperandLaw
-pub mod PlacedLaw
+pub mod PlaceBoundLaw
 pub mod Theorems

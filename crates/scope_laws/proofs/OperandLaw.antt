@@ -19,8 +19,8 @@ use Rattle.program.specs.Parts.{partOf, noParts, addedTo, noted, depthAfter, pa
 use Rattle.places.specs.Places.{operandName}
 use Rattle.scope.specs.Scope.{scope, turned, namesFrom}
 use Rattle.values.specs.declared.Value.{Value}
-use Rattle.scope_laws.proofs.QuietLaw.{Quiet}
-use Rattle.scope_laws.proofs.DefinedLaw.{Low, Defined, Outside, turned-kept, between}
+use Rattle.scope_laws.proofs.OuterScopeLaw.{Unchanged}
+use Rattle.scope_laws.proofs.DefinedLaw.{Bounded, Defined, Outside, turned-kept, between}
 
 -- only an operand's name belongs to the part of operands
 next : (b : Bool) (x r : ℕ) → (x ≡ operandName → ⊥) → pick b x r ≡ operandName → r ≡ operandName
@@ -127,14 +127,14 @@ module _ (text : List ℕ) (values : List Value) (n : ℕ) where
       go false q = f
 
   -- both are read from the same tokens
-  pub names-noted : (xs : List Reading) (before depth : ℕ) (es out : List ℕ) (p : Parts) → Quiet before depth xs → All (λ x. x .token .start ≤ 65536) xs → Low es →
+  pub names-noted : (xs : List Reading) (before depth : ℕ) (es out : List ℕ) (p : Parts) → Unchanged before depth xs → All (λ x. x .token .start ≤ 65536) xs → Bounded es →
       Outside text values n depth es → Noted p → namesFrom text before es xs ≡ scope out → Noted (partsFrom 0 p depth xs)
   unfolding namesFrom partsFrom
   names-noted [] before depth es out p q s l o f e = f
   names-noted (x ∷ xs) before depth es out p q s l o f e =
       let b = between (turned text before (x .role) (x .token .start) es) (λ rest. namesFrom text (x .role) rest xs) out e in
       let k = turned-kept text values n depth before (x .role) (x .token .start) es (b .mid) (s .0) l o (q .0) (b .first) in
-      names-noted xs (x .role) (depthAfter depth (x .role)) (b .mid) out _ (q .1) (s .1) (k .low) (k .outside) (one (eqb depth 0) refl (k .seen)) (b .then)
+      names-noted xs (x .role) (depthAfter depth (x .role)) (b .mid) out _ (q .1) (s .1) (k .bounded) (k .outside) (one (eqb depth 0) refl (k .seen)) (b .then)
     where
       one : (b : Bool) → eqb depth 0 ≡ b → (depth ≡ 0 → x .role ≡ OperandName → Defined text values n (x .token .start)) → Noted (pick b (noted p (x .role) (x .token .start)) p)
       one true w seen = noted-next p (x .role) (x .token .start) f (seen (eqb-true depth 0 w))

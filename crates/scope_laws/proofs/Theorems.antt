@@ -24,10 +24,10 @@ use Rattle.values.specs.Values.{noValue, valuesIn}
 use Rattle.scope.specs.Scope.{Scope, scope, fault, faultOf, andThen, body, waitingName, sameAt, defines, visible, define, look, settle, ends, placed, turned, namesFrom, namesOf, inputsFrom}
 use Rattle.known.specs.Known.{knownNames, namesFault, inputsFault}
 use Rattle.operands.specs.Operands.{valueNamed, arityOf, operandTyped}
-use Rattle.scope_laws.proofs.QuietLaw.{clash, op-quiet}
-use Rattle.scope_laws.proofs.DefinedLaw.{between, added, Low, sees-known}
+use Rattle.scope_laws.proofs.OuterScopeLaw.{not-both, op-unchanged}
+use Rattle.scope_laws.proofs.DefinedLaw.{between, added, Bounded, defined-known}
 use Rattle.scope_laws.proofs.OperandLaw.{Noted, noted-none, names-noted}
-use Rattle.scope_laws.proofs.PlacedLaw.{started, op-cases, names-few, places-few}
+use Rattle.scope_laws.proofs.PlaceBoundLaw.{started, op-cases, names-within, places-within}
 
 -- a fault is refusal 5 or 6
 abbrev Numbered : Scope → Type 0
@@ -134,27 +134,27 @@ any-before text before later es (x ∷ xs) e =
     ap (λ s. andThen s (λ rest. namesFrom text (x .role) rest xs))
     (first-turn text before (x .role) (x .token .start) es e ∙ sym (first-turn text later (x .role) (x .token .start) es e))
 
-module _ (text : List ℕ) (values : List Value) (low : (i : ℕ) → getD values i noValue .name ≤ 65536) where
-  known-low : (n : ℕ) → Low (knownNames values n)
+module _ (text : List ℕ) (values : List Value) (within : (i : ℕ) → getD values i noValue .name ≤ 65536) where
+  known-bounded : (n : ℕ) → Bounded (knownNames values n)
   unfolding knownNames
-  known-low zero = tt
-  known-low (suc n) = (omega (arith, low n), known-low n)
+  known-bounded zero = tt
+  known-bounded (suc n) = (omega (arith, within n), known-bounded n)
 
   known-settled : (n : ℕ) → settle text (knownNames values n) ≡ scope (knownNames values n)
   unfolding knownNames settle
   known-settled zero = refl
-  known-settled (suc n) = rw (le-ltb body (getD values n noValue .name) (omega (arith, low n)))
+  known-settled (suc n) = rw (le-ltb body (getD values n noValue .name) (omega (arith, within n)))
 
   module _ (n at : ℕ) (passed : namesFault text values n at .refusal ≡ 0) where
     op-noted : Noted text values n (opAt text at)
     unfolding namesFault namesOf readingsOf
     op-noted =
         op-cases text at (λ p. Noted text values n p) (noted-none text values n)
-        (λ h g. let q = op-quiet text at in
+        (λ h g. let q = op-unchanged text at in
         let w = no-fault (namesOf text at (knownNames values n)) (names-numbered text at (knownNames values n)) passed in
         let b = between (namesFrom text 0 (knownNames values n) (readingsOf Op text at)) (settle text) (w .out) (w .is) in
-        names-noted text values n (readingsOf Op text at) (q .before) 0 (knownNames values n) (b .mid) noParts (q .calm)
-        (started text h (length text + 1) (Op ∷ []) at g) (known-low n) (sees-known text values n n (omega arith)) (noted-none text values n)
+        names-noted text values n (readingsOf Op text at) (q .before) 0 (knownNames values n) (b .mid) noParts (q .unchanged)
+        (started text h (length text + 1) (Op ∷ []) at g) (known-bounded n) (defined-known text values n n (omega arith)) (noted-none text values n)
         (any-before text (q .before) 0 (knownNames values n) (readingsOf Op text at) (known-settled n) ∙ b .first))
 
     -- each operand is the name of one of the n values
@@ -172,7 +172,7 @@ module _ (text : List ℕ) (values : List Value) (low : (i : ℕ) → getD value
 -- the same of a text's own program and values
 pub text-operand-defined : (text : List ℕ) (n at : ℕ) → namesFault text (valuesIn text (programOf text) .list) n at .refusal ≡ 0 → (j : ℕ) → j < arityOf (opAt text at) →
     valueNamed text (valuesIn text (programOf text) .list) n (placeOf (opAt text at) operandName j) < n
-text-operand-defined text n at e j h = operand-defined text (valuesIn text (programOf text) .list) (names-few text) n at e j h
+text-operand-defined text n at e j h = operand-defined text (valuesIn text (programOf text) .list) (names-within text) n at e j h
 
 -- Where the inputs' names are not refused, no two inputs have one name.
 -- an entry that is a name is seen under each name that is the same
@@ -195,7 +195,7 @@ not-same : (text : List ℕ) (e a : ℕ) (es : List ℕ) → Seen text e es → 
 not-same text e a es s v = go (sameAt text e a) refl
   where
     go : (b : Bool) → sameAt text e a ≡ b → sameAt text e a ≡ false
-    go true q = clash (visible text a es) v (s a q)
+    go true q = not-both (visible text a es) v (s a q)
     go false q = q
 
 new-name : (text : List ℕ) (a : ℕ) (es out : List ℕ) → define text a es ≡ scope out → visible text a es ≡ false
@@ -226,10 +226,10 @@ pairs-apart text es (a ∷ places) out zero (suc j) f q h g = later-apart text (
 pairs-apart text es (a ∷ places) out (suc i) (suc j) f q h g =
     pairs-apart text (a ∷ es) places out i j (λ k. f (suc k)) (one-input text es places out a q .1) (omega arith) (omega arith)
 
-few-tab : (n : ℕ) (f : ℕ → ℕ) → ((i : ℕ) → f i ≤ 65536) → (k : ℕ) → getD (tab n f) k 0 < body
-few-tab zero f h k = omega arith
-few-tab (suc n) f h zero = omega (arith, h 0)
-few-tab (suc n) f h (suc k) = few-tab n (λ i. f (suc i)) (λ i. h (suc i)) k
+tab-within : (n : ℕ) (f : ℕ → ℕ) → ((i : ℕ) → f i ≤ 65536) → (k : ℕ) → getD (tab n f) k 0 < body
+tab-within zero f h k = omega arith
+tab-within (suc n) f h zero = omega (arith, h 0)
+tab-within (suc n) f h (suc k) = tab-within n (λ i. f (suc i)) (λ i. h (suc i)) k
 
 pub inputs-apart : (text : List ℕ) (n i j : ℕ) → inputsFault text (programOf text .header) n .refusal ≡ 0 → i < j → j < n →
     sameAt text (placeOf (programOf text .header) inputName i) (placeOf (programOf text .header) inputName j) ≡ false
@@ -237,5 +237,5 @@ unfolding inputsFault
 inputs-apart text n i j e h g =
     let f = placeOf (programOf text .header) inputName in
     let w = no-fault (inputsFrom text [] (tab n f)) (inputs-numbered text [] (tab n f)) e in
-    let p = pairs-apart text [] (tab n f) (w .out) i j (few-tab n f (places-few text)) (w .is) h (rw (length-tab n f) g) in
+    let p = pairs-apart text [] (tab n f) (w .out) i j (tab-within n f (places-within text)) (w .is) h (rw (length-tab n f) g) in
     rw (getD-tab n f i 0 (omega arith), getD-tab n f j 0 g) at p

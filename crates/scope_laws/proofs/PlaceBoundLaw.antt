@@ -33,16 +33,16 @@ abbrev pub Started : List Reading → Type 0
 Started xs = All (λ x. x .token .start ≤ 65536) xs
 
 module _ (text : List ℕ) (few : length text ≤ 65536) where
-  start-few : (at : ℕ) → at ≤ length text → tokenAt text at .start ≤ 65536
-  start-few at h =
+  start-within : (at : ℕ) → at ≤ length text → tokenAt text at .start ≤ 65536
+  start-within at h =
       let a = token-ordered text at in
       let b = token-within text at h in
       omega arith
 
   cell-started : (at : ℕ) → at ≤ length text → (c : Cell) (more : List ℕ → List Reading) → ((rest : List ℕ) → Started (more rest)) → Started (labelled (tokenAt text at) c more)
-  cell-started at h fails more f = (start-few at h, tt)
-  cell-started at h skips more f = (start-few at h, tt)
-  cell-started at h (takes role rest) more f = (start-few at h, f rest)
+  cell-started at h fails more f = (start-within at h, tt)
+  cell-started at h skips more f = (start-within at h, tt)
+  cell-started at h (takes role rest) more f = (start-within at h, f rest)
 
   pub started : (n : ℕ) (expected : List ℕ) (at : ℕ) → at ≤ length text → Started (readingsFrom n expected text at)
   unfolding readingsFrom
@@ -89,100 +89,100 @@ op-cases text at P z f = go (ltb 65536 (length text)) refl
     go false q = inside (ltb-false 65536 (length text) q) (decLt (length text) at)
 
 -- places
-abbrev Few : List ℕ → Type 0
-Few l = All (λ x. x ≤ 65536) l
+abbrev Within : List ℕ → Type 0
+Within l = All (λ x. x ≤ 65536) l
 
-few-set : (l : List ℕ) (i x : ℕ) → Few l → x ≤ 65536 → Few (set l i x)
-few-set [] i x l h = tt
-few-set (y ∷ ys) zero x l h = (h, l .1)
-few-set (y ∷ ys) (suc i) x l h = (l .0, few-set ys i x (l .1) h)
+within-set : (l : List ℕ) (i x : ℕ) → Within l → x ≤ 65536 → Within (set l i x)
+within-set [] i x l h = tt
+within-set (y ∷ ys) zero x l h = (h, l .1)
+within-set (y ∷ ys) (suc i) x l h = (l .0, within-set ys i x (l .1) h)
 
-few-get : (l : List ℕ) (i : ℕ) → Few l → getD l i 0 ≤ 65536
-few-get [] i l = omega arith
-few-get (y ∷ ys) zero l = l .0
-few-get (y ∷ ys) (suc i) l = few-get ys i (l .1)
+within-get : (l : List ℕ) (i : ℕ) → Within l → getD l i 0 ≤ 65536
+within-get [] i l = omega arith
+within-get (y ∷ ys) zero l = l .0
+within-get (y ∷ ys) (suc i) l = within-get ys i (l .1)
 
-few-zeros : (n : ℕ) → Few (replicate n 0)
-few-zeros zero = tt
-few-zeros (suc n) = (omega arith, few-zeros n)
+within-zeros : (n : ℕ) → Within (replicate n 0)
+within-zeros zero = tt
+within-zeros (suc n) = (omega arith, within-zeros n)
 
-few-added : (p : Parts) (k a : ℕ) → Few (p .at) → a ≤ 65536 → Few (addedTo p k a .at)
+within-added : (p : Parts) (k a : ℕ) → Within (p .at) → a ≤ 65536 → Within (addedTo p k a .at)
 unfolding addedTo
-few-added p k a f h = go (ltb (getD (p .count) k 0) 8)
+within-added p k a f h = go (ltb (getD (p .count) k 0) 8)
   where
-    go : (b : Bool) → Few (pick {A = Parts} b (record { count = set (p .count) k (getD (p .count) k 0 + 1); at = set (p .at) (8 * k + getD (p .count) k 0) a }) (record { count = set (p .count) k 9; at = p .at }) .at)
-    go true = few-set (p .at) (8 * k + getD (p .count) k 0) a f h
+    go : (b : Bool) → Within (pick {A = Parts} b (record { count = set (p .count) k (getD (p .count) k 0 + 1); at = set (p .at) (8 * k + getD (p .count) k 0) a }) (record { count = set (p .count) k 9; at = p .at }) .at)
+    go true = within-set (p .at) (8 * k + getD (p .count) k 0) a f h
     go false = f
 
-few-noted : (p : Parts) (role a : ℕ) → Few (p .at) → a ≤ 65536 → Few (noted p role a .at)
+within-noted : (p : Parts) (role a : ℕ) → Within (p .at) → a ≤ 65536 → Within (noted p role a .at)
 unfolding noted
-few-noted p role a f h = go (ltb (partOf role) 11)
+within-noted p role a f h = go (ltb (partOf role) 11)
   where
-    go : (b : Bool) → Few (pick b (addedTo p (partOf role) a) p .at)
-    go true = few-added p (partOf role) a f h
+    go : (b : Bool) → Within (pick b (addedTo p (partOf role) a) p .at)
+    go true = within-added p (partOf role) a f h
     go false = f
 
-few-parts : (level depth : ℕ) (p : Parts) (xs : List Reading) → Started xs → Few (p .at) → Few (partsFrom level p depth xs .at)
+within-parts : (level depth : ℕ) (p : Parts) (xs : List Reading) → Started xs → Within (p .at) → Within (partsFrom level p depth xs .at)
 unfolding partsFrom
-few-parts level depth p [] s f = f
-few-parts level depth p (x ∷ xs) s f = few-parts level (depthAfter depth (x .role)) _ xs (s .1) (go (eqb depth level))
+within-parts level depth p [] s f = f
+within-parts level depth p (x ∷ xs) s f = within-parts level (depthAfter depth (x .role)) _ xs (s .1) (go (eqb depth level))
   where
-    go : (b : Bool) → Few (pick b (noted p (x .role) (x .token .start)) p .at)
-    go true = few-noted p (x .role) (x .token .start) f (s .0)
+    go : (b : Bool) → Within (pick b (noted p (x .role) (x .token .start)) p .at)
+    go true = within-noted p (x .role) (x .token .start) f (s .0)
     go false = f
 
-few-none : Few (noParts .at)
+within-none : Within (noParts .at)
 unfolding noParts
-few-none = few-zeros 88
+within-none = within-zeros 88
 
-few-op : (text : List ℕ) (at : ℕ) → Few (opAt text at .at)
+within-op : (text : List ℕ) (at : ℕ) → Within (opAt text at .at)
 unfolding readingsOf
-few-op text at = op-cases text at (λ p. Few (p .at)) few-none (λ h g. few-parts 0 0 noParts (readingsOf Op text at) (started text h (length text + 1) (Op ∷ []) at g) few-none)
+within-op text at = op-cases text at (λ p. Within (p .at)) within-none (λ h g. within-parts 0 0 noParts (readingsOf Op text at) (started text h (length text + 1) (Op ∷ []) at g) within-none)
 
-few-outlined : (p : Program) (naming : Bool) (role a : ℕ) → Few (p .header .at) → a ≤ 65536 → Few (outlined p naming role a .header .at)
+within-outlined : (p : Program) (naming : Bool) (role a : ℕ) → Within (p .header .at) → a ≤ 65536 → Within (outlined p naming role a .header .at)
 unfolding outlined begun
-few-outlined p naming role a f h = go (inHeader role) (beginsOp naming role) (ltb (p .count) 257)
+within-outlined p naming role a f h = go (inHeader role) (beginsOp naming role) (ltb (p .count) 257)
   where
-    go : (b c d : Bool) → Few (pick {A = Program} b (record { header = noted (p .header) role a; count = p .count; ops = p .ops })
+    go : (b c d : Bool) → Within (pick {A = Program} b (record { header = noted (p .header) role a; count = p .count; ops = p .ops })
         (pick c (pick d (record { header = p .header; count = p .count + 1; ops = set (p .ops) (p .count) a }) (record { header = p .header; count = 258; ops = p .ops })) p) .header .at)
-    go true c d = few-noted (p .header) role a f h
+    go true c d = within-noted (p .header) role a f h
     go false true true = f
     go false true false = f
     go false false d = f
 
-few-program : (p : Program) (naming : Bool) (depth : ℕ) (xs : List Reading) → Started xs → Few (p .header .at) → Few (programFrom p naming depth xs .header .at)
+within-program : (p : Program) (naming : Bool) (depth : ℕ) (xs : List Reading) → Started xs → Within (p .header .at) → Within (programFrom p naming depth xs .header .at)
 unfolding programFrom
-few-program p naming depth [] s f = f
-few-program p naming depth (x ∷ xs) s f = few-program _ _ (depthAfter depth (x .role)) xs (s .1) (go (eqb depth 0))
+within-program p naming depth [] s f = f
+within-program p naming depth (x ∷ xs) s f = within-program _ _ (depthAfter depth (x .role)) xs (s .1) (go (eqb depth 0))
   where
-    go : (b : Bool) → Few (pick b (outlined p naming (x .role) (x .token .start)) p .header .at)
-    go true = few-outlined p naming (x .role) (x .token .start) f (s .0)
+    go : (b : Bool) → Within (pick b (outlined p naming (x .role) (x .token .start)) p .header .at)
+    go true = within-outlined p naming (x .role) (x .token .start) f (s .0)
     go false = f
 
-few-header : (text : List ℕ) → Few (programOf text .header .at)
+within-header : (text : List ℕ) → Within (programOf text .header .at)
 unfolding programOf noProgram readings readingsOf
-few-header text = go (ltb 65536 (length text)) refl
+within-header text = go (ltb 65536 (length text)) refl
   where
-    go : (b : Bool) → ltb 65536 (length text) ≡ b → Few (pick b noProgram (programFrom noProgram false 0 (readings text)) .header .at)
-    go true q = few-none
-    go false q = few-program noProgram false 0 (readings text) (started text (ltb-false 65536 (length text) q) (length text + 1) _ 0 (omega arith)) few-none
+    go : (b : Bool) → ltb 65536 (length text) ≡ b → Within (pick b noProgram (programFrom noProgram false 0 (readings text)) .header .at)
+    go true q = within-none
+    go false q = within-program noProgram false 0 (readings text) (started text (ltb-false 65536 (length text) q) (length text + 1) _ 0 (omega arith)) within-none
 
 -- the names of a text's inputs
-pub places-few : (text : List ℕ) (i : ℕ) → placeOf (programOf text .header) inputName i ≤ 65536
+pub places-within : (text : List ℕ) (i : ℕ) → placeOf (programOf text .header) inputName i ≤ 65536
 unfolding placeOf
-places-few text i = few-get (programOf text .header .at) _ (few-header text)
+places-within text i = within-get (programOf text .header .at) _ (within-header text)
 
 -- the names of the values of a text's program
-pub names-few : (text : List ℕ) (i : ℕ) → getD (valuesIn text (programOf text) .list) i noValue .name ≤ 65536
+pub names-within : (text : List ℕ) (i : ℕ) → getD (valuesIn text (programOf text) .list) i noValue .name ≤ 65536
 unfolding valuesIn valueAt inputValue resultValue placeOf
-names-few text i = by (decLt i 264)
+names-within text i = by (decLt i 264)
   where
     p : Program
     p = programOf text
 
     one : (b c : Bool) → pick b (pick c (inputValue text (p .header) i) (resultValue text (opAt text (getD (p .ops) (i - inputsOf p) 0)))) noValue .name ≤ 65536
-    one true true = few-get (p .header .at) _ (few-header text)
-    one true false = few-get (opAt text (getD (p .ops) (i - inputsOf p) 0) .at) _ (few-op text (getD (p .ops) (i - inputsOf p) 0))
+    one true true = within-get (p .header .at) _ (within-header text)
+    one true false = within-get (opAt text (getD (p .ops) (i - inputsOf p) 0) .at) _ (within-op text (getD (p .ops) (i - inputsOf p) 0))
     one false c = omega arith
 
     by : Dec (i < 264) → getD (valuesIn text (programOf text) .list) i noValue .name ≤ 65536
