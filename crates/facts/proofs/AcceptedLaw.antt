@@ -16,7 +16,6 @@ use Rattle.element.specs.declared.ElementType.the-variants.{I1, I8, I16, I32, I
 use Rattle.scalar.specs.declared.Direction.{Direction}
 use Rattle.scalar.specs.declared.Body.{Body}
 use Rattle.ops.specs.declared.Kind.{Kind}
-use Rattle.ops.specs.declared.Kind.the-variants.{Constant}
 use Rattle.optable.specs.Table.{ops, rowsFrom, noRow, rowAt}
 use Rattle.optable.specs.Takes.{takes, operandTaken, resultTaken}
 use Rattle.optable.specs.declared.Takes.{Takes}
@@ -28,7 +27,7 @@ use Rattle.opcheck.specs.declared.Operation.{Operation}
 use Rattle.opcheck.specs.Judged.{takenAt, takenByTables, brokenBy}
 use Rattle.opcheck.specs.Accepted.{Granted}
 use Rattle.opcheck.proofs.GrantedLaw.{granted, Taken, taken}
-use Rattle.facts.specs.Facts.{Shaped, ruleOf, operandsOf, scalarsOf, booleanOf, isBoolean, kindsBy, kindAt, OneNumber, RowFor, AcceptedAs}
+use Rattle.facts.specs.Facts.{Shaped, ruleOf, operandsOf, scalarsOf, hasBody, booleanOf, isBoolean, kindBy, OneNumber, RowFor, AcceptedAs}
 
 only-i1 : (e : ElementType) → boolOf e ≡ true → e ≡ I1
 only-i1 I1 q = refl
@@ -64,23 +63,23 @@ module _ (row : Row) (o : Operation) (t : Taken row o) where
 
 -- ---- the rows of the op table
 
--- two lists that a field of each makes the same
-same-field : {A : Type 0} (f : Row → A) (g : Kind → A) (rows : List Row) (kinds : List Kind) → map f rows ≡ map g kinds
-    → (i : ℕ) → i < length rows → i < length kinds → f (getD rows i noRow) ≡ g (getD kinds i Constant)
-same-field f g [] kinds e i l m = absurd (not-suc-le-zero l)
-same-field f g (r ∷ rows) [] e i l m = absurd (not-suc-le-zero m)
-same-field f g (r ∷ rows) (k ∷ kinds) e zero l m = cc
-same-field f g (r ∷ rows) (k ∷ kinds) e (suc i) l m = same-field f g rows kinds (let q : map f rows ≡ map g kinds = cc in q) i (le-of-suc-le-suc l) (le-of-suc-le-suc m)
+-- two fields that are the same in every row of a list
+same-field : {A : Type 0} (f g : Row → A) (rows : List Row) → map f rows ≡ map g rows → (i : ℕ) → i < length rows → f (getD rows i noRow) ≡ g (getD rows i noRow)
+same-field f g [] e i l = absurd (not-suc-le-zero l)
+same-field f g (r ∷ rows) e zero l = cc
+same-field f g (r ∷ rows) e (suc i) l = same-field f g rows (let q : map f rows ≡ map g rows = cc in q) i (le-of-suc-le-suc l)
 
-pub row-for : (d : Direction) (body : Body) (i : ℕ) → i < 34 → RowFor (kindAt d body i) (rowAt i)
+pub row-for : (d : Direction) (body : Body) (i : ℕ) → i < length ops → RowFor (kindBy d body (rowAt i .class)) (rowAt i)
 unfolding rowAt ops
 row-for d body i l =
+    let rows = rowsFrom 0 ops in
     record {
-      rule = same-field (λ r. r .rule) ruleOf (rowsFrom 0 ops) (kindsBy d body) refl i l l;
-      least = same-field (λ r. r .least) (λ k. operandsOf k .0) (rowsFrom 0 ops) (kindsBy d body) refl i l l;
-      most = same-field (λ r. r .most) (λ k. operandsOf k .1) (rowsFrom 0 ops) (kindsBy d body) refl i l l;
-      scalars = same-field (λ r. r .scalars) scalarsOf (rowsFrom 0 ops) (kindsBy d body) refl i l l;
-      boolean = same-field (λ r. isBoolean (r .result)) booleanOf (rowsFrom 0 ops) (kindsBy d body) refl i l l;
+      rule = same-field (λ r. r .rule) (λ r. ruleOf (kindBy d body (r .class))) rows refl i l;
+      least = same-field (λ r. r .least) (λ r. operandsOf (kindBy d body (r .class)) .0) rows refl i l;
+      most = same-field (λ r. r .most) (λ r. operandsOf (kindBy d body (r .class)) .1) rows refl i l;
+      body = same-field (λ r. r .body) (λ r. hasBody (kindBy d body (r .class))) rows refl i l;
+      scalars = same-field (λ r. r .scalars) (λ r. scalarsOf (kindBy d body (r .class))) rows refl i l;
+      boolean = same-field (λ r. isBoolean (r .result)) (λ r. booleanOf (kindBy d body (r .class))) rows refl i l;
     }
 
 -- ---- the verdicts

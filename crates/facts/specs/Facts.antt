@@ -7,10 +7,8 @@ use Prim.Native.Nat.{ℕ, _≤_, _<_}
 use lib.ListN.{length, take, getD}
 use Rattle.lists.specs.Lists.{tab}
 use Rattle.element.specs.declared.ElementType.the-variants.{I1}
-use Rattle.division.specs.declared.Division.the-variants.{Divide, Remainder}
 use Rattle.scalar.specs.declared.Unary.{Unary}
 use Rattle.scalar.specs.declared.Unary.the-variants.{Negate, Abs, Sign, Not, CountLeadingZeros, Popcnt}
-use Rattle.scalar.specs.declared.Binary.the-variants.{Add, Subtract, Multiply, Maximum, Minimum, And, Or, Xor, ShiftLeft, ShiftRightArithmetic, ShiftRightLogical}
 use Rattle.scalar.specs.declared.Direction.{Direction}
 use Rattle.scalar.specs.declared.Body.{Body}
 use Rattle.shape.specs.Dims.{dimsOf, Sized, Fills}
@@ -22,6 +20,8 @@ use Rattle.ops.specs.declared.Kind.{Kind}
 use Rattle.ops.specs.declared.Kind.the-variants.{Constant, Iota, Elementwise, Pairwise, Quotient, Compare, Convert, Select, Clamp, Moved, Pad, Concatenate, DynamicSlice, Reduce}
 use Rattle.ops.specs.Ops.{Node, TensorType as NodeType}
 use Rattle.apply.specs.declared.Task.{Task}
+use Rattle.optable.specs.declared.Class.{Class}
+use Rattle.optable.specs.declared.Class.the-variants as class
 use Rattle.optable.specs.declared.Takes.{Takes}
 use Rattle.optable.specs.declared.Takes.the-variants.{Any, Integer, Signed, Boolean}
 use Rattle.optable.specs.declared.Row.{Row}
@@ -133,6 +133,23 @@ scalarsOf Concatenate = false
 scalarsOf DynamicSlice = true
 scalarsOf (Reduce body) = true
 
+-- reduce has a body
+abbrev pub hasBody : Kind → Bool
+hasBody Constant = false
+hasBody Iota = false
+hasBody (Elementwise op) = false
+hasBody (Pairwise op) = false
+hasBody (Quotient op) = false
+hasBody (Compare d) = false
+hasBody Convert = false
+hasBody Select = false
+hasBody Clamp = false
+hasBody (Moved m) = false
+hasBody Pad = false
+hasBody Concatenate = false
+hasBody DynamicSlice = false
+hasBody (Reduce body) = true
+
 -- the result is a "tensor of boolean type" in 000's table
 abbrev pub booleanOf : Kind → Bool
 booleanOf Constant = false
@@ -162,21 +179,26 @@ pub record RowFor (kind : Kind) (row : Row) : Type 0 where
   pub rule : row .rule ≡ ruleOf kind
   pub least : row .least ≡ operandsOf kind .0
   pub most : row .most ≡ operandsOf kind .1
+  pub body : row .body ≡ hasBody kind
   pub scalars : row .scalars ≡ scalarsOf kind
   pub boolean : isBoolean (row .result) ≡ booleanOf kind
 
--- the classes of the op table's ops, in its order; of compare and reduce by direction and body
-abbrev pub kindsBy : Direction → Body → List Kind
-kindsBy d body =
-    Elementwise Abs ∷ Pairwise Add ∷ Pairwise And ∷ Moved BroadcastInDim ∷ Clamp ∷ Compare d ∷ Concatenate ∷ Constant ∷ Convert ∷
-    Elementwise CountLeadingZeros ∷ Quotient Divide ∷ DynamicSlice ∷ Iota ∷ Pairwise Maximum ∷ Pairwise Minimum ∷
-    Pairwise Multiply ∷ Elementwise Negate ∷ Elementwise Not ∷ Pairwise Or ∷ Pad ∷ Elementwise Popcnt ∷ Reduce body ∷
-    Quotient Remainder ∷ Moved Reshape ∷ Moved Reverse ∷ Select ∷ Pairwise ShiftLeft ∷ Pairwise ShiftRightArithmetic ∷
-    Pairwise ShiftRightLogical ∷ Elementwise Sign ∷ Moved Slice ∷ Pairwise Subtract ∷ Moved Transpose ∷ Pairwise Xor ∷ []
-
--- the class of op i of the table
-abbrev pub kindAt : Direction → Body → ℕ → Kind
-kindAt d body i = getD (kindsBy d body) i Constant
+-- what an op of a class computes, as evaluating takes it: with compare's direction and the operation of reduce's body, which stand in the text
+abbrev pub kindBy : Direction → Body → Class → Kind
+kindBy d body class.Constant = Constant
+kindBy d body class.Iota = Iota
+kindBy d body (class.Elementwise op) = Elementwise op
+kindBy d body (class.Pairwise op) = Pairwise op
+kindBy d body (class.Quotient op) = Quotient op
+kindBy d body class.Compare = Compare d
+kindBy d body class.Convert = Convert
+kindBy d body class.Select = Select
+kindBy d body class.Clamp = Clamp
+kindBy d body (class.Moved m) = Moved m
+kindBy d body class.Pad = Pad
+kindBy d body class.Concatenate = Concatenate
+kindBy d body class.DynamicSlice = DynamicSlice
+kindBy d body class.Reduce = Reduce body
 
 -- iota_dimension and dimension are each one number, the first of its list
 abbrev pub OneNumber : Kind → Operation → Type 0

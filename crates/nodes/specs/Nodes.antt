@@ -1,49 +1,47 @@
 -- The program of a text as evaluating and free runs take it: each op by its class with its types, attributes and operands, a value by its number.
 -- Assumes nothing.
 use Prim.Native.Nat.{ℕ, _+_}
-use mathlib.Core.List.{List, [], _∷_}
+use mathlib.Core.List.{List}
 use lib.ListN.{getD}
-use lib.Dec.{eqb}
-use Rattle.lists.specs.Lists.{pick, tab}
+use Rattle.lists.specs.Lists.{tab}
 use Rattle.run.specs.Run.{Program}
-use Rattle.scalar.specs.declared.Direction.{Direction}
-use Rattle.scalar.specs.declared.Direction.the-variants.{Eq, Ne, Ge, Gt, Le, Lt}
 use Rattle.scalar.specs.declared.Body.{Body}
-use Rattle.scalar.specs.declared.Body.the-variants.{Add, Multiply, Maximum, Minimum, And, Or, Xor}
+use Rattle.scalar.specs.declared.Body.the-variants.{Add}
 use Rattle.shape.specs.Dims.{dimsOf}
 use Rattle.elementwise.specs.Elementwise.{Tensor}
 use Rattle.ops.specs.declared.Kind.{Kind}
 use Rattle.ops.specs.Ops.{Node, TensorType as NodeType}
-use Rattle.optable.specs.Table.{value, comparisonDirection}
+use Rattle.optable.specs.declared.Reducer.{Reducer}
+use Rattle.optable.specs.declared.Reducer.the-variants.{Not, By}
+use Rattle.optable.specs.Table.{value, comparisonDirection, rowAt, directionAt}
 use Rattle.attribute.specs.Attribute.{denseAt}
 use Rattle.dense.specs.Dense.{denseValue}
 use Rattle.program.specs.declared.Parts.{Parts}
 use Rattle.program.specs.declared.Program.{Program as Places}
 use Rattle.program.specs.Parts.{opAt}
 use Rattle.program.specs.Program.{programOf}
-use Rattle.places.specs.Places.{opName, operandName, bodyOpen, placeOf, typeIn}
+use Rattle.places.specs.Places.{operandName, bodyOpen, placeOf, typeIn}
 use Rattle.values.specs.declared.Value.{Value}
 use Rattle.values.specs.declared.Values.{Values}
 use Rattle.values.specs.Values.{noValue, opsOf, valuesIn}
 use Rattle.attributes.specs.Attributes.{nameOf, choiceOf}
-use Rattle.bodies.specs.Bodies.{rowNamed, bodyRow}
+use Rattle.bodies.specs.Bodies.{bodyRow}
 use Rattle.operands.specs.Operands.{valueNamed, arityOf}
 use Rattle.typing.specs.Typing.{rowOf, operationOf}
-use Rattle.facts.specs.Facts.{kindAt, nodeType, nodeFor}
+use Rattle.facts.specs.Facts.{kindBy, nodeType, nodeFor}
 
--- comparison_direction's choices in the order of the op table
-unfoldable pub directionAt : ℕ → Direction
-directionAt choice = getD (Eq ∷ Ne ∷ Ge ∷ Gt ∷ Le ∷ Lt ∷ []) choice Eq
+-- the operation of a body of an op; of an op that may not be a body's, add: an accepted reduce has no such body (proofs/TypedLaw, `typed-reducer`)
+abbrev pub operationBy : Reducer → Body
+operationBy Not = Add
+operationBy (By b) = b
 
--- the op of a body, by its row of the op table
 unfoldable pub reducerAt : ℕ → Body
-reducerAt row =
-    pick (eqb row 1) Add (pick (eqb row 15) Multiply (pick (eqb row 13) Maximum (pick (eqb row 14) Minimum (pick (eqb row 2) And (pick (eqb row 18) Or Xor)))))
+reducerAt row = operationBy (rowAt row .reducer)
 
--- the class of an op, by its row
+-- what an op computes, by the class of its row; a compare without a direction, EQ: an accepted one has it (proofs/TypedLaw, `typed-direction`)
 unfoldable pub kindOf : List ℕ → Parts → Kind
 kindOf text op =
-    kindAt (directionAt (choiceOf text op comparisonDirection)) (reducerAt (bodyRow text (placeOf op bodyOpen 0))) (rowNamed text (placeOf op opName 0))
+    kindBy (directionAt (choiceOf text op comparisonDirection)) (reducerAt (bodyRow text (placeOf op bodyOpen 0))) (rowOf text op .class)
 
 -- the elements of a constant's dense value
 unfoldable pub elementsOf : List ℕ → Parts → Tensor

@@ -16,10 +16,19 @@ use Rattle.optable.specs.declared.Row.{Row}
 use Rattle.optable.specs.declared.Entry.{Entry}
 use Rattle.optable.specs.declared.Takes.the-variants.{Any, Integer, Signed, Boolean}
 use Rattle.optable.specs.declared.Rule.the-variants as rule
+use Rattle.division.specs.declared.Division.the-variants.{Divide, Remainder}
+use Rattle.scalar.specs.declared.Unary.the-variants as unary
+use Rattle.scalar.specs.declared.Binary.the-variants as binary
 use Rattle.scalar.specs.declared.Direction.the-variants.{Eq}
+use Rattle.scalar.specs.declared.Body.the-variants as body
+use Rattle.ops.specs.declared.Move.the-variants as move
+use Rattle.optable.specs.declared.Class.{Class}
+use Rattle.optable.specs.declared.Class.the-variants.{Constant, Iota, Elementwise, Pairwise, Quotient, Compare, Convert, Select, Clamp, Moved, Pad, Concatenate, DynamicSlice, Reduce}
+use Rattle.optable.specs.declared.Reducer.{Reducer}
+use Rattle.optable.specs.declared.Reducer.the-variants.{Not, By}
 use Rattle.optable.specs.declared.Choice.the-variants as choice
 use Rattle.optable.specs.Names.{same, placeIn}
-use Rattle.optable.specs.Table.{Op, Named, Chosen, value, comparisonDirection, compareType, choiceNamed, attributeKind, choiceForm, saidAt, choiceKind, directionSaid, directionAt, ops, attributes, choiceKinds, choices, opNames, attributeNames, choiceKindNames, choiceNames, names, nameBytes, places, noWord, wordAt, rowsFrom, noRow, rowAt, takesCode, takesOf, ruleCode, ruleOf, bit, entryOf, entryAt}
+use Rattle.optable.specs.Table.{Op, Named, Chosen, value, comparisonDirection, compareType, choiceNamed, attributeKind, choiceForm, saidAt, choiceKind, directionSaid, directionAt, ops, attributes, choiceKinds, choices, opNames, attributeNames, choiceKindNames, choiceNames, names, nameBytes, places, noWord, wordAt, rowsFrom, noRow, rowAt, takesCode, takesOf, ruleCode, ruleOf, classCode, classOf, reducerCode, reducerOf, bit, entryOf, entryAt}
 
 -- ---- how many rows
 
@@ -117,6 +126,54 @@ rule-small rule.Select = omega arith
 rule-small rule.Slice = omega arith
 rule-small rule.Transpose = omega arith
 
+class-back : (c : Class) → (classOf (classCode c) ≡ c) × (classCode c < 34)
+unfolding classOf classCode
+class-back Constant = (refl, omega arith)
+class-back Iota = (refl, omega arith)
+class-back (Elementwise unary.Negate) = (refl, omega arith)
+class-back (Elementwise unary.Abs) = (refl, omega arith)
+class-back (Elementwise unary.Sign) = (refl, omega arith)
+class-back (Elementwise unary.Not) = (refl, omega arith)
+class-back (Elementwise unary.CountLeadingZeros) = (refl, omega arith)
+class-back (Elementwise unary.Popcnt) = (refl, omega arith)
+class-back (Pairwise binary.Add) = (refl, omega arith)
+class-back (Pairwise binary.Subtract) = (refl, omega arith)
+class-back (Pairwise binary.Multiply) = (refl, omega arith)
+class-back (Pairwise binary.Maximum) = (refl, omega arith)
+class-back (Pairwise binary.Minimum) = (refl, omega arith)
+class-back (Pairwise binary.And) = (refl, omega arith)
+class-back (Pairwise binary.Or) = (refl, omega arith)
+class-back (Pairwise binary.Xor) = (refl, omega arith)
+class-back (Pairwise binary.ShiftLeft) = (refl, omega arith)
+class-back (Pairwise binary.ShiftRightArithmetic) = (refl, omega arith)
+class-back (Pairwise binary.ShiftRightLogical) = (refl, omega arith)
+class-back (Quotient Divide) = (refl, omega arith)
+class-back (Quotient Remainder) = (refl, omega arith)
+class-back Compare = (refl, omega arith)
+class-back Convert = (refl, omega arith)
+class-back Select = (refl, omega arith)
+class-back Clamp = (refl, omega arith)
+class-back (Moved move.Reshape) = (refl, omega arith)
+class-back (Moved move.BroadcastInDim) = (refl, omega arith)
+class-back (Moved move.Transpose) = (refl, omega arith)
+class-back (Moved move.Slice) = (refl, omega arith)
+class-back (Moved move.Reverse) = (refl, omega arith)
+class-back Pad = (refl, omega arith)
+class-back Concatenate = (refl, omega arith)
+class-back DynamicSlice = (refl, omega arith)
+class-back Reduce = (refl, omega arith)
+
+reducer-back : (r : Reducer) → (reducerOf (reducerCode r) ≡ r) × (reducerCode r < 8)
+unfolding reducerOf reducerCode
+reducer-back Not = (refl, omega arith)
+reducer-back (By body.Add) = (refl, omega arith)
+reducer-back (By body.Multiply) = (refl, omega arith)
+reducer-back (By body.Maximum) = (refl, omega arith)
+reducer-back (By body.Minimum) = (refl, omega arith)
+reducer-back (By body.And) = (refl, omega arith)
+reducer-back (By body.Or) = (refl, omega arith)
+reducer-back (By body.Xor) = (refl, omega arith)
+
 bit-back : (b : Bool) → eqb (bit b) 1 ≡ b
 unfolding bit
 bit-back true = refl
@@ -126,30 +183,39 @@ module _ (e : Entry) (i : ℕ) (p : e ≡ entryAt i) where
   is-row : e ≡ entryOf (rowAt i)
   is-row = p ∙ entry-row i
 
-  pub first-small : e .0 .9 < 4
+  pub first-small : e .9 < 4
   unfolding entryOf
   first-small = rw is-row (takes-small (rowAt i .first))
 
-  pub rest-small : e .0 .10 < 4
+  pub rest-small : e .10 < 4
   unfolding entryOf
   rest-small = rw is-row (takes-small (rowAt i .rest))
 
-  pub result-small : e .0 .12 < 4
+  pub result-small : e .12 < 4
   unfolding entryOf
   result-small = rw is-row (takes-small (rowAt i .result))
 
-  pub rule-in : e .0 .13 < 17
+  pub rule-in : e .13 < 17
   unfolding entryOf
   rule-in = rw is-row (rule-small (rowAt i .rule))
 
+  pub class-in : e .14 < 34
+  unfolding entryOf
+  class-in = rw is-row (class-back (rowAt i .class) .1)
+
+  pub reducer-in : e .15 < 8
+  unfolding entryOf
+  reducer-in = rw is-row (reducer-back (rowAt i .reducer) .1)
+
   -- the row that it stands for
-  pub row-back : (f s t : Takes) (u : Rule) → f ≡ takesOf (e .0 .9) → s ≡ takesOf (e .0 .10) → t ≡ takesOf (e .0 .12) → u ≡ ruleOf (e .0 .13) →
-      _≡_ {A = Row}
-      (record { at = e .0 .0; len = e .0 .1; least = e .0 .2; most = e .0 .3; needed = e .0 .4; a = e .0 .5; b = e .0 .6; c = e .0 .7; body = eqb (e .0 .8) 1; first = f; rest = s; scalars = eqb (e .0 .11) 1; result = t; rule = u; class = e .1; reducer = e .2 })
+  pub row-back : (f s t : Takes) (u : Rule) (v : Class) (w : Reducer) → f ≡ takesOf (e .9) → s ≡ takesOf (e .10) → t ≡ takesOf (e .12) → u ≡ ruleOf (e .13)
+      → v ≡ classOf (e .14) → w ≡ reducerOf (e .15)
+      → _≡_ {A = Row}
+      (record { at = e .0; len = e .1; least = e .2; most = e .3; needed = e .4; a = e .5; b = e .6; c = e .7; body = eqb (e .8) 1; first = f; rest = s; scalars = eqb (e .11) 1; result = t; rule = u; class = v; reducer = w })
       (rowAt i)
   unfolding entryOf
-  row-back f s t u a b c d =
-      rw (a, b, c, d, is-row, takes-back (rowAt i .first), takes-back (rowAt i .rest), takes-back (rowAt i .result), rule-back (rowAt i .rule), bit-back (rowAt i .body), bit-back (rowAt i .scalars)) refl
+  row-back f s t u v w a b c d g h =
+      rw (a, b, c, d, g, h, is-row, takes-back (rowAt i .first), takes-back (rowAt i .rest), takes-back (rowAt i .result), rule-back (rowAt i .rule), class-back (rowAt i .class) .0, reducer-back (rowAt i .reducer) .0, bit-back (rowAt i .body), bit-back (rowAt i .scalars)) refl
 
 getD-past : {A : Type 0} (l : List A) (i : ℕ) (d : A) → length l ≤ i → getD l i d ≡ d
 getD-past [] i d h = refl

@@ -319,7 +319,7 @@ noRow = record { at = 0; len = 0; least = 0; most = 0; needed = 0; a = 0; b = 0;
 unfoldable pub rowAt : ℕ → Row
 rowAt i = getD (rowsFrom 0 ops) i noRow
 
--- a row as the code's table has it, in numbers up to its class: 0 and 1 for false and true, the place of a variant for Takes and Rule
+-- a row as the code's table has it, in numbers: 0 and 1 for false and true, the place of a variant for Takes, Rule, Class and Reducer
 unfoldable pub takesCode : Takes → ℕ
 takesCode Any = 0
 takesCode Integer = 1
@@ -354,16 +354,67 @@ ruleOf n =
     (rule.SameTypes ∷ rule.Abs ∷ rule.Broadcast ∷ rule.Clamp ∷ rule.Compare ∷ rule.Concatenate ∷ rule.Constant ∷ rule.Convert ∷ rule.DynamicSlice ∷ rule.Iota ∷ rule.Pad ∷ rule.Reduce ∷ rule.Reshape ∷ rule.Reverse ∷ rule.Select ∷ rule.Slice ∷ rule.Transpose ∷ [])
     n rule.SameTypes
 
+unfoldable pub classCode : Class → ℕ
+classCode Constant = 0
+classCode Iota = 1
+classCode (Elementwise unary.Negate) = 2
+classCode (Elementwise unary.Abs) = 3
+classCode (Elementwise unary.Sign) = 4
+classCode (Elementwise unary.Not) = 5
+classCode (Elementwise unary.CountLeadingZeros) = 6
+classCode (Elementwise unary.Popcnt) = 7
+classCode (Pairwise binary.Add) = 8
+classCode (Pairwise binary.Subtract) = 9
+classCode (Pairwise binary.Multiply) = 10
+classCode (Pairwise binary.Maximum) = 11
+classCode (Pairwise binary.Minimum) = 12
+classCode (Pairwise binary.And) = 13
+classCode (Pairwise binary.Or) = 14
+classCode (Pairwise binary.Xor) = 15
+classCode (Pairwise binary.ShiftLeft) = 16
+classCode (Pairwise binary.ShiftRightArithmetic) = 17
+classCode (Pairwise binary.ShiftRightLogical) = 18
+classCode (Quotient Divide) = 19
+classCode (Quotient Remainder) = 20
+classCode Compare = 21
+classCode Convert = 22
+classCode Select = 23
+classCode Clamp = 24
+classCode (Moved move.Reshape) = 25
+classCode (Moved move.BroadcastInDim) = 26
+classCode (Moved move.Transpose) = 27
+classCode (Moved move.Slice) = 28
+classCode (Moved move.Reverse) = 29
+classCode Pad = 30
+classCode Concatenate = 31
+classCode DynamicSlice = 32
+classCode Reduce = 33
+
+unfoldable pub classOf : ℕ → Class
+classOf n =
+    getD
+    (Constant ∷ Iota ∷ Elementwise unary.Negate ∷ Elementwise unary.Abs ∷ Elementwise unary.Sign ∷ Elementwise unary.Not ∷ Elementwise unary.CountLeadingZeros ∷ Elementwise unary.Popcnt ∷ Pairwise binary.Add ∷ Pairwise binary.Subtract ∷ Pairwise binary.Multiply ∷ Pairwise binary.Maximum ∷ Pairwise binary.Minimum ∷ Pairwise binary.And ∷ Pairwise binary.Or ∷ Pairwise binary.Xor ∷ Pairwise binary.ShiftLeft ∷ Pairwise binary.ShiftRightArithmetic ∷ Pairwise binary.ShiftRightLogical ∷ Quotient Divide ∷ Quotient Remainder ∷ Compare ∷ Convert ∷ Select ∷ Clamp ∷ Moved move.Reshape ∷ Moved move.BroadcastInDim ∷ Moved move.Transpose ∷ Moved move.Slice ∷ Moved move.Reverse ∷ Pad ∷ Concatenate ∷ DynamicSlice ∷ Reduce ∷ [])
+    n Constant
+
+unfoldable pub reducerCode : Reducer → ℕ
+reducerCode Not = 0
+reducerCode (By body.Add) = 1
+reducerCode (By body.Multiply) = 2
+reducerCode (By body.Maximum) = 3
+reducerCode (By body.Minimum) = 4
+reducerCode (By body.And) = 5
+reducerCode (By body.Or) = 6
+reducerCode (By body.Xor) = 7
+
+unfoldable pub reducerOf : ℕ → Reducer
+reducerOf n = getD (Not ∷ By body.Add ∷ By body.Multiply ∷ By body.Maximum ∷ By body.Minimum ∷ By body.And ∷ By body.Or ∷ By body.Xor ∷ []) n Not
+
 unfoldable pub bit : Bool → ℕ
 bit false = 0
 bit true = 1
 
 unfoldable pub entryOf : Row → Entry
-entryOf r = (
-  (r .at, r .len, r .least, r .most, r .needed, r .a, r .b, r .c, bit (r .body), takesCode (r .first), takesCode (r .rest), bit (r .scalars), takesCode (r .result), ruleCode (r .rule)),
-  r .class,
-  r .reducer,
-)
+entryOf r = (r .at, r .len, r .least, r .most, r .needed, r .a, r .b, r .c, bit (r .body), takesCode (r .first), takesCode (r .rest), bit (r .scalars), takesCode (r .result), ruleCode (r .rule), classCode (r .class), reducerCode (r .reducer))
 
 unfoldable pub entryAt : ℕ → Entry
 entryAt i = getD (map entryOf (rowsFrom 0 ops)) i (entryOf noRow)

@@ -12,7 +12,7 @@ ghost use Prim.Native.Nat.{_+_, _≤_, _<_, min};
 ghost use lib.ListN.{length, getD, take, drop};
 ghost use lib.Dec.{eqb};
 ghost use Rattle.optable.specs.Names.{same, placeIn};
-ghost use Rattle.optable.specs.Table.{ops, choices, names, nameBytes, wordAt, noRow, rowAt, takesOf, ruleOf, entryAt, attributeKind, choiceForm, saidAt, kindSaid, directionSaid, choiceKind, directionAt, mayReduce};
+ghost use Rattle.optable.specs.Table.{ops, choices, names, nameBytes, wordAt, noRow, rowAt, takesOf, ruleOf, classOf, reducerOf, entryAt, attributeKind, choiceForm, saidAt, kindSaid, directionSaid, choiceKind, directionAt, mayReduce};
 ghost use Rattle.optable.specs.Find.{stretch, findOp, findAttribute, findChoiceKind, findChoice, slotIn};
 ghost use Rattle.optable.specs.Takes.{takes, operandTaken, resultTaken};
 
@@ -201,7 +201,7 @@ const NAMES: [u8; 925] =
     edge_padding_lowedge_padding_highinterior_paddingdimensionsslice_sizescomparison_direction\
     compare_typecomparison_directioncomparison_typeEQNEGEGTLELTSIGNEDUNSIGNED";
 
-// The variants of Takes and Rule, by the numbers that stand for them in the table.
+// The variants of Takes, Rule, Class and Reducer, by the numbers that stand for them in the table.
 const TAKES: [Takes; 4] = [Takes::Any, Takes::Integer, Takes::Signed, Takes::Boolean];
 
 const RULES: [Rule; 17] = [
@@ -224,8 +224,58 @@ const RULES: [Rule; 17] = [
     Rule::Transpose,
 ];
 
-// The fields of Row from at to rule, in their order, as numbers: 0 and 1 for false and true.
-struct Counts(
+const CLASSES: [Class; 34] = [
+    Class::Constant,
+    Class::Iota,
+    Class::Elementwise(Unary::Negate),
+    Class::Elementwise(Unary::Abs),
+    Class::Elementwise(Unary::Sign),
+    Class::Elementwise(Unary::Not),
+    Class::Elementwise(Unary::CountLeadingZeros),
+    Class::Elementwise(Unary::Popcnt),
+    Class::Pairwise(Binary::Add),
+    Class::Pairwise(Binary::Subtract),
+    Class::Pairwise(Binary::Multiply),
+    Class::Pairwise(Binary::Maximum),
+    Class::Pairwise(Binary::Minimum),
+    Class::Pairwise(Binary::And),
+    Class::Pairwise(Binary::Or),
+    Class::Pairwise(Binary::Xor),
+    Class::Pairwise(Binary::ShiftLeft),
+    Class::Pairwise(Binary::ShiftRightArithmetic),
+    Class::Pairwise(Binary::ShiftRightLogical),
+    Class::Quotient(Division::Divide),
+    Class::Quotient(Division::Remainder),
+    Class::Compare,
+    Class::Convert,
+    Class::Select,
+    Class::Clamp,
+    Class::Moved(Move::Reshape),
+    Class::Moved(Move::BroadcastInDim),
+    Class::Moved(Move::Transpose),
+    Class::Moved(Move::Slice),
+    Class::Moved(Move::Reverse),
+    Class::Pad,
+    Class::Concatenate,
+    Class::DynamicSlice,
+    Class::Reduce,
+];
+
+const REDUCERS: [Reducer; 8] = [
+    Reducer::Not,
+    Reducer::By(Body::Add),
+    Reducer::By(Body::Multiply),
+    Reducer::By(Body::Maximum),
+    Reducer::By(Body::Minimum),
+    Reducer::By(Body::And),
+    Reducer::By(Body::Or),
+    Reducer::By(Body::Xor),
+];
+
+// A row as it stands in the table: the fields of Row in their order, as numbers; 0 and 1 for false and true.
+struct Entry(
+    usize,
+    usize,
     usize,
     usize,
     usize,
@@ -242,217 +292,44 @@ struct Counts(
     usize,
 );
 
-// A row as it stands in the table.
-struct Entry(Counts, Class, Reducer);
-
 const NONE: usize = Attributes::NONE;
 
-// at, len, least, most, needed, a, b, c, body, first, rest, scalars, result, rule; class; reducer
 const OPS: [Entry; 34] = [
-    // abs
-    Entry(
-        Counts(0, 15, 1, 1, 0, NONE, NONE, NONE, 0, 2, 2, 0, 2, 1),
-        Class::Elementwise(Unary::Abs),
-        Reducer::Not,
-    ),
-    // add
-    Entry(
-        Counts(15, 15, 2, 2, 0, NONE, NONE, NONE, 0, 0, 0, 0, 0, 0),
-        Class::Pairwise(Binary::Add),
-        Reducer::By(Body::Add),
-    ),
-    // and
-    Entry(
-        Counts(30, 15, 2, 2, 0, NONE, NONE, NONE, 0, 0, 0, 0, 0, 0),
-        Class::Pairwise(Binary::And),
-        Reducer::By(Body::And),
-    ),
-    // broadcast_in_dim
-    Entry(
-        Counts(45, 28, 1, 1, 1, 2, NONE, NONE, 0, 0, 0, 0, 0, 2),
-        Class::Moved(Move::BroadcastInDim),
-        Reducer::Not,
-    ),
-    // clamp
-    Entry(
-        Counts(73, 17, 3, 3, 0, NONE, NONE, NONE, 0, 0, 0, 0, 0, 3),
-        Class::Clamp,
-        Reducer::Not,
-    ),
-    // compare
-    Entry(
-        Counts(90, 19, 2, 2, 1, 13, 14, NONE, 0, 0, 0, 0, 3, 4),
-        Class::Compare,
-        Reducer::Not,
-    ),
-    // concatenate
-    Entry(
-        Counts(109, 23, 0, 8, 1, 7, NONE, NONE, 0, 0, 0, 0, 0, 5),
-        Class::Concatenate,
-        Reducer::Not,
-    ),
-    // constant
-    Entry(
-        Counts(132, 20, 0, 0, 1, 0, NONE, NONE, 0, 0, 0, 0, 0, 6),
-        Class::Constant,
-        Reducer::Not,
-    ),
-    // convert
-    Entry(
-        Counts(152, 19, 1, 1, 0, NONE, NONE, NONE, 0, 0, 0, 0, 0, 7),
-        Class::Convert,
-        Reducer::Not,
-    ),
-    // count_leading_zeros
-    Entry(
-        Counts(171, 31, 1, 1, 0, NONE, NONE, NONE, 0, 1, 1, 0, 1, 0),
-        Class::Elementwise(Unary::CountLeadingZeros),
-        Reducer::Not,
-    ),
-    // divide
-    Entry(
-        Counts(202, 18, 2, 2, 0, NONE, NONE, NONE, 0, 1, 1, 0, 1, 0),
-        Class::Quotient(Division::Divide),
-        Reducer::Not,
-    ),
-    // dynamic_slice
-    Entry(
-        Counts(220, 25, 1, 8, 1, 12, NONE, NONE, 0, 0, 1, 1, 0, 8),
-        Class::DynamicSlice,
-        Reducer::Not,
-    ),
-    // iota
-    Entry(
-        Counts(245, 16, 0, 0, 1, 1, NONE, NONE, 0, 0, 0, 0, 1, 9),
-        Class::Iota,
-        Reducer::Not,
-    ),
-    // maximum
-    Entry(
-        Counts(261, 19, 2, 2, 0, NONE, NONE, NONE, 0, 0, 0, 0, 0, 0),
-        Class::Pairwise(Binary::Maximum),
-        Reducer::By(Body::Maximum),
-    ),
-    // minimum
-    Entry(
-        Counts(280, 19, 2, 2, 0, NONE, NONE, NONE, 0, 0, 0, 0, 0, 0),
-        Class::Pairwise(Binary::Minimum),
-        Reducer::By(Body::Minimum),
-    ),
-    // multiply
-    Entry(
-        Counts(299, 20, 2, 2, 0, NONE, NONE, NONE, 0, 0, 0, 0, 0, 0),
-        Class::Pairwise(Binary::Multiply),
-        Reducer::By(Body::Multiply),
-    ),
-    // negate
-    Entry(
-        Counts(319, 18, 1, 1, 0, NONE, NONE, NONE, 0, 1, 1, 0, 1, 0),
-        Class::Elementwise(Unary::Negate),
-        Reducer::Not,
-    ),
-    // not
-    Entry(
-        Counts(337, 15, 1, 1, 0, NONE, NONE, NONE, 0, 0, 0, 0, 0, 0),
-        Class::Elementwise(Unary::Not),
-        Reducer::Not,
-    ),
-    // or
-    Entry(
-        Counts(352, 14, 2, 2, 0, NONE, NONE, NONE, 0, 0, 0, 0, 0, 0),
-        Class::Pairwise(Binary::Or),
-        Reducer::By(Body::Or),
-    ),
-    // pad
-    Entry(
-        Counts(366, 15, 2, 2, 3, 8, 9, 10, 0, 0, 0, 1, 0, 10),
-        Class::Pad,
-        Reducer::Not,
-    ),
-    // popcnt
-    Entry(
-        Counts(381, 18, 1, 1, 0, NONE, NONE, NONE, 0, 1, 1, 0, 1, 0),
-        Class::Elementwise(Unary::Popcnt),
-        Reducer::Not,
-    ),
-    // reduce
-    Entry(
-        Counts(399, 18, 2, 2, 1, 11, NONE, NONE, 1, 0, 0, 1, 0, 11),
-        Class::Reduce,
-        Reducer::Not,
-    ),
-    // remainder
-    Entry(
-        Counts(417, 21, 2, 2, 0, NONE, NONE, NONE, 0, 1, 1, 0, 1, 0),
-        Class::Quotient(Division::Remainder),
-        Reducer::Not,
-    ),
-    // reshape
-    Entry(
-        Counts(438, 19, 1, 1, 0, NONE, NONE, NONE, 0, 0, 0, 0, 0, 12),
-        Class::Moved(Move::Reshape),
-        Reducer::Not,
-    ),
-    // reverse
-    Entry(
-        Counts(457, 19, 1, 1, 1, 11, NONE, NONE, 0, 0, 0, 0, 0, 13),
-        Class::Moved(Move::Reverse),
-        Reducer::Not,
-    ),
-    // select
-    Entry(
-        Counts(476, 18, 3, 3, 0, NONE, NONE, NONE, 0, 3, 0, 0, 0, 14),
-        Class::Select,
-        Reducer::Not,
-    ),
-    // shift_left
-    Entry(
-        Counts(494, 22, 2, 2, 0, NONE, NONE, NONE, 0, 1, 1, 0, 1, 0),
-        Class::Pairwise(Binary::ShiftLeft),
-        Reducer::Not,
-    ),
-    // shift_right_arithmetic
-    Entry(
-        Counts(516, 34, 2, 2, 0, NONE, NONE, NONE, 0, 1, 1, 0, 1, 0),
-        Class::Pairwise(Binary::ShiftRightArithmetic),
-        Reducer::Not,
-    ),
-    // shift_right_logical
-    Entry(
-        Counts(550, 31, 2, 2, 0, NONE, NONE, NONE, 0, 1, 1, 0, 1, 0),
-        Class::Pairwise(Binary::ShiftRightLogical),
-        Reducer::Not,
-    ),
-    // sign
-    Entry(
-        Counts(581, 16, 1, 1, 0, NONE, NONE, NONE, 0, 2, 2, 0, 2, 0),
-        Class::Elementwise(Unary::Sign),
-        Reducer::Not,
-    ),
-    // slice
-    Entry(
-        Counts(597, 17, 1, 1, 3, 4, 5, 6, 0, 0, 0, 0, 0, 15),
-        Class::Moved(Move::Slice),
-        Reducer::Not,
-    ),
-    // subtract
-    Entry(
-        Counts(614, 20, 2, 2, 0, NONE, NONE, NONE, 0, 1, 1, 0, 1, 0),
-        Class::Pairwise(Binary::Subtract),
-        Reducer::Not,
-    ),
-    // transpose
-    Entry(
-        Counts(634, 21, 1, 1, 1, 3, NONE, NONE, 0, 0, 0, 0, 0, 16),
-        Class::Moved(Move::Transpose),
-        Reducer::Not,
-    ),
-    // xor
-    Entry(
-        Counts(655, 15, 2, 2, 0, NONE, NONE, NONE, 0, 0, 0, 0, 0, 0),
-        Class::Pairwise(Binary::Xor),
-        Reducer::By(Body::Xor),
-    ),
+    // at, len, least, most, needed, a, b, c, body, first, rest, scalars, result, rule, class, reducer
+    Entry(0, 15, 1, 1, 0, NONE, NONE, NONE, 0, 2, 2, 0, 2, 1, 3, 0), // abs
+    Entry(15, 15, 2, 2, 0, NONE, NONE, NONE, 0, 0, 0, 0, 0, 0, 8, 1), // add
+    Entry(30, 15, 2, 2, 0, NONE, NONE, NONE, 0, 0, 0, 0, 0, 0, 13, 5), // and
+    Entry(45, 28, 1, 1, 1, 2, NONE, NONE, 0, 0, 0, 0, 0, 2, 26, 0), // broadcast_in_dim
+    Entry(73, 17, 3, 3, 0, NONE, NONE, NONE, 0, 0, 0, 0, 0, 3, 24, 0), // clamp
+    Entry(90, 19, 2, 2, 1, 13, 14, NONE, 0, 0, 0, 0, 3, 4, 21, 0), // compare
+    Entry(109, 23, 0, 8, 1, 7, NONE, NONE, 0, 0, 0, 0, 0, 5, 31, 0), // concatenate
+    Entry(132, 20, 0, 0, 1, 0, NONE, NONE, 0, 0, 0, 0, 0, 6, 0, 0), // constant
+    Entry(152, 19, 1, 1, 0, NONE, NONE, NONE, 0, 0, 0, 0, 0, 7, 22, 0), // convert
+    Entry(171, 31, 1, 1, 0, NONE, NONE, NONE, 0, 1, 1, 0, 1, 0, 6, 0), // count_leading_zeros
+    Entry(202, 18, 2, 2, 0, NONE, NONE, NONE, 0, 1, 1, 0, 1, 0, 19, 0), // divide
+    Entry(220, 25, 1, 8, 1, 12, NONE, NONE, 0, 0, 1, 1, 0, 8, 32, 0), // dynamic_slice
+    Entry(245, 16, 0, 0, 1, 1, NONE, NONE, 0, 0, 0, 0, 1, 9, 1, 0), // iota
+    Entry(261, 19, 2, 2, 0, NONE, NONE, NONE, 0, 0, 0, 0, 0, 0, 11, 3), // maximum
+    Entry(280, 19, 2, 2, 0, NONE, NONE, NONE, 0, 0, 0, 0, 0, 0, 12, 4), // minimum
+    Entry(299, 20, 2, 2, 0, NONE, NONE, NONE, 0, 0, 0, 0, 0, 0, 10, 2), // multiply
+    Entry(319, 18, 1, 1, 0, NONE, NONE, NONE, 0, 1, 1, 0, 1, 0, 2, 0), // negate
+    Entry(337, 15, 1, 1, 0, NONE, NONE, NONE, 0, 0, 0, 0, 0, 0, 5, 0), // not
+    Entry(352, 14, 2, 2, 0, NONE, NONE, NONE, 0, 0, 0, 0, 0, 0, 14, 6), // or
+    Entry(366, 15, 2, 2, 3, 8, 9, 10, 0, 0, 0, 1, 0, 10, 30, 0), // pad
+    Entry(381, 18, 1, 1, 0, NONE, NONE, NONE, 0, 1, 1, 0, 1, 0, 7, 0), // popcnt
+    Entry(399, 18, 2, 2, 1, 11, NONE, NONE, 1, 0, 0, 1, 0, 11, 33, 0), // reduce
+    Entry(417, 21, 2, 2, 0, NONE, NONE, NONE, 0, 1, 1, 0, 1, 0, 20, 0), // remainder
+    Entry(438, 19, 1, 1, 0, NONE, NONE, NONE, 0, 0, 0, 0, 0, 12, 25, 0), // reshape
+    Entry(457, 19, 1, 1, 1, 11, NONE, NONE, 0, 0, 0, 0, 0, 13, 29, 0), // reverse
+    Entry(476, 18, 3, 3, 0, NONE, NONE, NONE, 0, 3, 0, 0, 0, 14, 23, 0), // select
+    Entry(494, 22, 2, 2, 0, NONE, NONE, NONE, 0, 1, 1, 0, 1, 0, 16, 0), // shift_left
+    Entry(516, 34, 2, 2, 0, NONE, NONE, NONE, 0, 1, 1, 0, 1, 0, 17, 0), // shift_right_arithmetic
+    Entry(550, 31, 2, 2, 0, NONE, NONE, NONE, 0, 1, 1, 0, 1, 0, 18, 0), // shift_right_logical
+    Entry(581, 16, 1, 1, 0, NONE, NONE, NONE, 0, 2, 2, 0, 2, 0, 4, 0), // sign
+    Entry(597, 17, 1, 1, 3, 4, 5, 6, 0, 0, 0, 0, 0, 15, 28, 0), // slice
+    Entry(614, 20, 2, 2, 0, NONE, NONE, NONE, 0, 1, 1, 0, 1, 0, 9, 0), // subtract
+    Entry(634, 21, 1, 1, 1, 3, NONE, NONE, 0, 0, 0, 0, 0, 16, 27, 0), // transpose
+    Entry(655, 15, 2, 2, 0, NONE, NONE, NONE, 0, 0, 0, 0, 0, 0, 15, 7), // xor
 ];
 
 // The places of the names of attributes, first words of choices and choices.
@@ -523,6 +400,20 @@ fn rule_of(n: usize) -> Rule
     RULES[n]
 }
 
+fn class_of(n: usize) -> Class
+    requires { ⌜ n < 34 ⌝ }
+    ensures { λ r. ⌜ r ≡ classOf n ⌝ }
+{
+    CLASSES[n]
+}
+
+fn reducer_of(n: usize) -> Reducer
+    requires { ⌜ n < 8 ⌝ }
+    ensures { λ r. ⌜ r ≡ reducerOf n ⌝ }
+{
+    REDUCERS[n]
+}
+
 // What stands past the table's end.
 fn no_row() -> Row
     ensures { λ r. ⌜ r ≡ noRow ⌝ }
@@ -553,26 +444,25 @@ pub fn op_row(i: usize) -> Row
 {
     if i < Ops::COUNT {
         let e = entry_at(i);
-        let n = e.0;
-        let first = takes_of(n.9);
-        let rest = takes_of(n.10);
-        let result = takes_of(n.12);
-        let rule = rule_of(n.13);
-        let class = e.1;
-        let reducer = e.2;
+        let first = takes_of(e.9);
+        let rest = takes_of(e.10);
+        let result = takes_of(e.12);
+        let rule = rule_of(e.13);
+        let class = class_of(e.14);
+        let reducer = reducer_of(e.15);
         return Row {
-            at: n.0,
-            len: n.1,
-            least: n.2,
-            most: n.3,
-            needed: n.4,
-            a: n.5,
-            b: n.6,
-            c: n.7,
-            body: n.8 == 1,
+            at: e.0,
+            len: e.1,
+            least: e.2,
+            most: e.3,
+            needed: e.4,
+            a: e.5,
+            b: e.6,
+            c: e.7,
+            body: e.8 == 1,
             first,
             rest,
-            scalars: n.11 == 1,
+            scalars: e.11 == 1,
             result,
             rule,
             class,

@@ -1,3 +1,4 @@
+use Rattle.optable.proofs.TableLaw.{attributes-count}
 use Rattle.attributes.specs.Attributes.{neededAt}
 use borrow.Author.Needs.{needs}
 use mathlib.Core.Path.{sym}
@@ -23,7 +24,7 @@ returns-4 : tie.Need-returns-4
 unfolding neededAt
 returns-4 c =
     let a = c .before .before .before .args in
-    sym (List·getD-eq-default (a .row .a ∷ a .row .b ∷ a .row .c ∷ []) 15 {n = a .s} (omega arith))
+    rw attributes-count (sym (List·getD-eq-default (a .row .a ∷ a .row .b ∷ a .row .c ∷ []) 15 {n = a .s} (omega arith)))
 
 pub needed-at-spec : {M : Type 1} → statement M
 needed-at-spec = tie.close (tie.spec returns returns-2 returns-3 returns-4)
