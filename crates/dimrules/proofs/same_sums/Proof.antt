@@ -16,8 +16,16 @@ lowProduct c = product-bound (c .args .k) (c .args .i % 4294967296) (search need
 highProduct : (c : tie.Start) → c .args .k * (c .args .i / 4294967296) ≤ 17592186044416
 highProduct c = product-bound (c .args .k) (c .args .i / 4294967296) (search needs) (high-bound (c .args .i) (search needs))
 
+-- what the two sums have above 32 bits, with what their low halves carry
+abbrev sizeAbove : ℕ → ℕ → ℕ → ℕ
+sizeAbove m p q = m / 4294967296 + p / 4294967296 + q / 4294967296 + (m % 4294967296 + p % 4294967296 + q % 4294967296) / 4294967296
+
+abbrev paddedAbove : ℕ → ℕ → ℕ → ℕ → ℕ → ℕ
+paddedAbove n a k i b =
+    n / 4294967296 + a / 4294967296 + k * (i / 4294967296) + b / 4294967296 + (n % 4294967296 + a % 4294967296 + k * (i % 4294967296) + b % 4294967296) / 4294967296
+
 equal : (n a k i b m p q : ℕ)
-    → eqb (m / 4294967296 + p / 4294967296 + q / 4294967296 + (m % 4294967296 + p % 4294967296 + q % 4294967296) / 4294967296) (n / 4294967296 + a / 4294967296 + k * (i / 4294967296) + b / 4294967296 + (n % 4294967296 + a % 4294967296 + k * (i % 4294967296) + b % 4294967296) / 4294967296)
+    → eqb (sizeAbove m p q) (paddedAbove n a k i b)
     && eqb ((m % 4294967296 + p % 4294967296 + q % 4294967296) % 4294967296) ((n % 4294967296 + a % 4294967296 + k * (i % 4294967296) + b % 4294967296) % 4294967296)
     ≡ eqb (m + p + q) (n + a + k * i + b)
 equal n a k i b m p q =
@@ -55,7 +63,8 @@ add-if1-2 c = omega (arith, lowProduct c, highProduct c)
 returns : tie.Need-returns
 returns c =
     let a = c .before .args in
-    rw (eq-eqb _ _ (c .if1 .taken)) at (equal (a .n) (a .a) (a .k) (a .i) (a .b) (a .m) (a .p) (a .q))
+    let whole : sizeAbove (a .m) (a .p) (a .q) ≡ paddedAbove (a .n) (a .a) (a .k) (a .i) (a .b) = omega arith in
+    rw (eq-eqb _ _ whole) at (equal (a .n) (a .a) (a .k) (a .i) (a .b) (a .m) (a .p) (a .q))
 
 returns-2 : tie.Need-returns-2
 returns-2 c =
