@@ -19,7 +19,7 @@ use Rattle.values.specs.Values.{valuesOf}
 use Rattle.verify.specs.Verify.{verdict}
 use Rattle.nodes.specs.Nodes.{nodesOf}
 use Rattle.nodes.proofs.AcceptedLaw.{accepted-program}
-use Rattle.layout.specs.Layout.{valueIn}
+use Rattle.layout.specs.Layout.{valueIn, tensorsIn}
 use Rattle.evaluation.specs.Evaluated.{tensorsOf}
 use Rattle.evaluation.specs.Order.{OrderFreeAnswer}
 
@@ -71,8 +71,9 @@ module _ (text inputs store : List ℕ) (accepted : verdict text .number ≡ 0) 
   pub every-tensor : (i : ℕ) → i < valuesOf text .count → heldFor i (ranBy textOrder foldTrees) ≡ some (valueIn (valuesOf text) store i)
   unfolding OrderFreeAnswer
   every-tensor i h =
-      ap (heldFor i) (claim accepted starts textOrder in-text-order foldTrees by-folds .values refl)
-      ∙ held-at (valuesOf text .count) (valueIn (valuesOf text) store) i h
+      let table : ranBy textOrder foldTrees ≡ ended (map some (tensorsIn (valuesOf text) store (valuesOf text .count))) =
+      claim accepted starts textOrder in-text-order foldTrees by-folds .values refl in
+      ap (heldFor i) table ∙ held-at (valuesOf text .count) (valueIn (valuesOf text) store) i h
 
   -- together: runs end alike, whatever their orders and trees
   pub runs-alike : (one other : List ℕ) → OrderOf hlo (nodesOf text) one → OrderOf hlo (nodesOf text) other
