@@ -14,6 +14,7 @@ use constants::constant_into;
 use inputs::first_foreign;
 use inputs::input_slots;
 use judge::Refusal;
+use limits::Limits;
 use offsets::needed_of;
 use offsets::offsets_of;
 use program::Program;
@@ -66,7 +67,7 @@ fn run_program(
     requires { ⌜ (length (now inputs) ≡ inputSlots vs) × (firstForeign vs (now inputs) ≡ inputSlots vs) × (needed ≤ length (now store)) ⌝ }
     ensures { λ r. ⌜ answer r (now (store .exit)) ≡ ran (now (text .entry)) (now (inputs .entry)) (now (store .entry)) ⌝ }
 {
-    let mut done = [0u64; 8192];
+    let mut done = [0u64; Limits::ELEMENTS];
     run_over(text, p, vs, needed, inputs, &mut done, store)
 }
 

@@ -11,6 +11,9 @@ impl Limits {
     // 2: "Each dimension, and the product of a shape's dimensions with every 0 counted as 1, at most 4,096."
     pub const VOLUME: usize = 4096;
 
+    // What stands for every dimension and product above it.
+    pub const PAST_VOLUME: usize = Self::VOLUME + 1;
+
     // 3: "Inputs and op results together at most 8,192 elements, body values not counted."
     pub const ELEMENTS: usize = 8192;
 

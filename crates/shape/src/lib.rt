@@ -36,11 +36,11 @@ fn capped_product(n: usize, d: usize) -> usize
         return n;
     }
     if Limits::VOLUME < d {
-        return 4097;
+        return Limits::PAST_VOLUME;
     }
     let p = n * d;
     if Limits::VOLUME < p {
-        return 4097;
+        return Limits::PAST_VOLUME;
     }
     p
 }

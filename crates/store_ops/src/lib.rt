@@ -12,6 +12,7 @@ use constants::constant_into;
 use doing::zero_into;
 use elementwise::Step;
 use judge::Refusal;
+use limits::Limits;
 use offsets::value_size;
 use program::Program;
 use steps::op_step;
@@ -23,7 +24,7 @@ fn fill_at(
     text: &[u8],
     p: Program,
     vs: Values,
-    starts: [usize; 264],
+    starts: [usize; Limits::VALUES],
     k: usize,
     at: usize,
     end: usize,
@@ -49,7 +50,7 @@ fn fill(
     text: &[u8],
     p: Program,
     vs: Values,
-    starts: [usize; 264],
+    starts: [usize; Limits::VALUES],
     k: usize,
     done: &mut [u64],
     store: &mut [u64],
@@ -77,7 +78,7 @@ pub fn run_ops(
     text: &[u8],
     p: Program,
     vs: Values,
-    starts: [usize; 264],
+    starts: [usize; Limits::VALUES],
     needed: usize,
     done: &mut [u64],
     store: &mut [u64],

@@ -197,10 +197,10 @@ fn with_digit(v: usize, b: u8) -> usize
     ensures { λ r. ⌜ r ≡ min (v * 10 + (b - 48)) 4097 ⌝ }
 {
     let next = v * 10 + digit_of(b);
-    if next < 4097 {
+    if next < Limits::PAST_VOLUME {
         return next;
     }
-    4097
+    Limits::PAST_VOLUME
 }
 
 // Dimension k of the shape from `at` up to `end`, 4,097 for all above 4,096, 0 where there is none.

@@ -1,6 +1,7 @@
 // Refusals 0 to 8 of a text.
 use judge::Refusal;
 use judge::read_refusal;
+use known::Entries;
 use known::input_names;
 use opwise::by_name;
 use opwise::first_refused;
@@ -16,9 +17,6 @@ ghost use Rattle.program.specs.Program.{programOf};
 ghost use Rattle.values.specs.Values.{valuesIn};
 ghost use Rattle.opwise.specs.Opwise.{Lent};
 ghost use Rattle.verify.specs.Verify.{programRefusal, verdict};
-
-// The names in scope: one free place for each token of a text, and one for each value.
-const ENTRIES: usize = 65801;
 
 // Refusals 5 to 8 of a program with its values.
 fn program_refusal(
@@ -45,7 +43,7 @@ fn checked(text: &[u8]) -> Refusal
     ensures { λ r. ⌜ r ≡ programRefusal (now (text .entry)) (programOf (now (text .entry))) (valuesIn (now (text .entry)) (programOf (now (text .entry)))) ⌝ }
 {
     let mut stack: [u8; Stack::SIZE] = [0; Stack::SIZE];
-    let mut entries: [usize; ENTRIES] = [0; ENTRIES];
+    let mut entries: [usize; Entries::SIZE] = [0; Entries::SIZE];
     let p = program_of(text);
     let vs = values_in(text, p);
     program_refusal(text, p, vs, &mut stack, &mut entries)
