@@ -76,7 +76,7 @@ numbersOf l = record { count = length l; list = inSix l }
 -- the op as it is read: the arguments of a body are of rank 0
 abbrev pub operationOf : Row → Operation
 operationOf r =
-    let argument = record { element = r .result .element; shape = shapeFrom [] } in
+    let argument : TensorType = record { element = r .result .element; shape = shapeFrom [] } in
     record {
       arity = length (r .operands);
       types = map typeOf (r .operands);
@@ -90,16 +90,16 @@ operationOf r =
       right = argument;
     }
 
--- the op of a row on its operands, as the evaluation runs it
-abbrev pub evaluated : Row → Out Tensor ℕ
-evaluated r = byFold hlo (wayOf (nodeFor (r .kind) (operationOf r) [] []) (r .kind) (map (λ x. x .elements) (r .operands)))
+-- the op of a row on its operands, as the evaluation runs an op
+abbrev pub rowGives : Row → Out Tensor ℕ
+rowGives r = byFold hlo (wayOf (nodeFor (r .kind) (operationOf r) [] []) (r .kind) (map (λ x. x .elements) (r .operands)))
 
 abbrev pub outcomeOf : Row → Outcome
 outcomeOf r =
     record {
       typed = allTyped (r .result ∷ r .operands);
       broken = brokenBy (ruleOf (r .kind)) (operationOf r);
-      out = evaluated r;
+      out = rowGives r;
     }
 
 abbrev pub saidOf : Row → Outcome
