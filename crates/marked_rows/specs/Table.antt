@@ -73,7 +73,7 @@ typeOf x = record { element = x .element; shape = shapeFrom (x .dims) }
 abbrev pub numbersOf : List ℕ → Numbers
 numbersOf l = record { count = length l; list = inSix l }
 
--- the op as it is read: the arguments of a body are of rank 0
+-- the op as it is read; choice and value are compare's and constant's, left and right the types of a body's arguments, of rank 0
 abbrev pub operationOf : Row → Operation
 operationOf r =
     let argument : TensorType = record { element = r .result .element; shape = shapeFrom [] } in
@@ -102,6 +102,7 @@ outcomeOf r =
       out = rowGives r;
     }
 
+-- what the paper says of a row
 abbrev pub saidOf : Row → Outcome
 saidOf r = record { typed = true; broken = 0; out = gives (r .result .elements) }
 
