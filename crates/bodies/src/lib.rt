@@ -75,7 +75,9 @@ pub fn row_named(text: &[u8], at: usize) -> usize
 fn is_reducer(row: usize) -> bool
     ensures { λ r. ⌜ r ≡ isReducer row ⌝ }
 {
-    may_reduce(op_row(row).reducer)
+    let r = op_row(row);
+    let reducer = r.reducer;
+    may_reduce(reducer)
 }
 
 // Whether operand j of the body is its argument i.
