@@ -1,1 +1,2 @@
+pub mod BodyValueLaw
 pub mod ArgumentLaw
