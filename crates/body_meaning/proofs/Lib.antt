@@ -1,2 +1,3 @@
 pub mod BodyValueLaw
 pub mod ArgumentLaw
+pub mod GatherLaw
