@@ -12,7 +12,6 @@ use Rattle.lists.specs.Lists.{pick, All}
 use Rattle.lists.proofs.TestLaw.{both-true}
 use Rattle.run.specs.Tree.{fold, Tree, treeValue}
 use Rattle.element.specs.Types.{Value}
-use Rattle.element.specs.declared.ElementType.{ElementType}
 use Rattle.scalar.specs.Body.{bodyOf}
 use Rattle.scalar.specs.declared.Body.{Body}
 use Rattle.scalar.specs.declared.Direction.{Direction}
@@ -21,10 +20,7 @@ use Rattle.ops.specs.declared.Kind.the-variants.{Reduce}
 use Rattle.ops.specs.Ops.{elementOf}
 use Rattle.optable.specs.declared.Class.{Class}
 use Rattle.optable.specs.declared.Class.the-variants as class
-use Rattle.optable.specs.declared.Reducer.{Reducer}
-use Rattle.optable.specs.declared.Reducer.the-variants.{Not, By}
-use Rattle.optable.specs.declared.Row.{Row}
-use Rattle.optable.specs.Table.{comparisonDirection, ops, rowAt, mayReduce, directionAt}
+use Rattle.optable.specs.Table.{comparisonDirection, ops, rowAt, directionAt}
 use Rattle.judge.specs.Judge.{textRefusal}
 use Rattle.program.specs.declared.Parts.{Parts}
 use Rattle.program.specs.declared.Program.{Program as Places}
@@ -35,16 +31,13 @@ use Rattle.scope.specs.Scope.{sameAt}
 use Rattle.values.specs.declared.Value.{Value as Named}
 use Rattle.values.specs.declared.Values.{Values}
 use Rattle.values.specs.Values.{opsOf, valuesIn}
-use Rattle.attributes.specs.Attributes.{attributesFit, choiceOf}
-use Rattle.operands.specs.Operands.{operandsTyped}
-use Rattle.opcheck.specs.Judged.{takenByTables}
+use Rattle.attributes.specs.Attributes.{choiceOf}
 use Rattle.bodies.specs.Bodies.{innerOp, hasCount, bodyCounted, opCounted, rowNamed, isReducer, onBoth, returnsIt, oneType, formed, bodyFits, bodyRow}
-use Rattle.bodies.proofs.BodiesLaw.{fits-reducer}
-use Rattle.typing.specs.Typing.{rowOf, operationOf, resultsAre, bodiesFit, inTable, typedOp}
+use Rattle.typing.specs.Typing.{rowOf, bodiesFit, inTable, typedOp}
 use Rattle.facts.specs.Facts.{kindBy}
 use Rattle.facts.proofs.AcceptedLaw.{row-for}
 use Rattle.verify.specs.Verify.{programRefusal, verdict}
-use Rattle.nodes.specs.Nodes.{operationBy, reducerAt, kindOf, nodeAt}
+use Rattle.nodes.specs.Nodes.{reducerAt, kindOf, nodeAt}
 use Rattle.nodes.proofs.TypedLaw.{typed-parts}
 use Rattle.nodes.proofs.VerdictLaw.{both-zero}
 use Rattle.nodes.proofs.AcceptedLaw.{accepted-count, accepted-names, accepted-stands}
@@ -54,18 +47,6 @@ use Rattle.body_meaning.proofs.ArgumentLaw.{arguments-apart}
 use Rattle.body_meaning.proofs.GatherLaw.{same-tree, same-fold}
 
 -- ---- a body of the form
-
-operation-of : (r : Reducer) → mayReduce r ≡ true → r ≡ By (operationBy r)
-operation-of Not e = absurd (false≢true e)
-operation-of (By b) e = refl
-
--- what evaluating takes for its operation is what it computes from its text
-pub fits-value : (text : List ℕ) (at : ℕ) → bodyFits text at ≡ true → sameAt text (placeOf (bodyAt text at) inputName 0) (placeOf (bodyAt text at) inputName 1) ≡ false
-    → (t : ElementType) (x y : ℕ) → Value t x → Value t y → bodyOf (reducerAt (bodyRow text at)) t x y ≡ bodyValue text at t x y
-unfolding reducerAt isReducer
-fits-value text at fits differ t x y u v =
-    let r = rowAt (bodyRow text at) .reducer in
-    sym (body-value text at fits differ (operationBy r) (operation-of r (fits-reducer text at fits)) t x y u v)
 
 first-of : (a b c d e f g h i : Bool) → a && b && c && d && e && f && g && h && i ≡ true → a ≡ true
 first-of true b c d e f g h i q = refl
@@ -109,23 +90,20 @@ record Bodied (text : List ℕ) (op : Parts) : Type 0 where
   fits : bodyFits text (placeOf op bodyOpen 0) ≡ true
 
 module _ (text : List ℕ) (op : Parts) (values : List Named) (n : ℕ) (typed : typedOp text op (rowOf text op) values n ≡ true) (body : Body) (is : kindOf text op ≡ Reduce body) where
-  abbrev row : ℕ
-  row = rowNamed text (placeOf op opName 0)
-
   has-body : rowOf text op .body ≡ true
   unfolding rowOf kindOf inTable
   has-body =
       let d = directionAt (choiceOf text op comparisonDirection) in
       let b = reducerAt (bodyRow text (placeOf op bodyOpen 0)) in
+      let row = rowNamed text (placeOf op opName 0) in
       let l = ltb-true row (length ops) (typed-parts text op (rowOf text op) values n typed .table) in
       row-for d b row l .body ∙ rw (reduce-class d b body (rowAt row .class) is .0)
 
   reduce-bodied : Bodied text op
-  unfolding typedOp bodiesFit
+  unfolding bodiesFit
   reduce-bodied =
-      let r = rowOf text op in
-      let a = inTable text op && operandsTyped text op values n && resultsAre 1 op && attributesFit text op r && takenByTables r (operationOf text op r) in
-      let h = both-true (eqb (countOf op bodyOpen) (pick (r .body) 1 0)) (pick (r .body) (bodyFits text (placeOf op bodyOpen 0)) true) (both-true a (bodiesFit text op r) typed .1) in
+      let row = rowOf text op in
+      let h = both-true (eqb (countOf op bodyOpen) (pick (row .body) 1 0)) (pick (row .body) (bodyFits text (placeOf op bodyOpen 0)) true) (typed-parts text op row values n typed .bodies) in
       record { one = eqb-true (countOf op bodyOpen) 1 (rw has-body at (h .0)); fits = rw has-body at (h .1) }
 
   reduce-operation : reducerAt (bodyRow text (placeOf op bodyOpen 0)) ≡ body
@@ -175,7 +153,7 @@ module _ (text : List ℕ) (e : verdict text .number ≡ 0) where
     accepted-body x y u v =
         let t = elementOf (nodeAt text p vs k) in
         let o = reduce-operation text (opOf k) (vs .list) (vs .inputs + k) (accepted-stands text e k l .typed) body kind-is in
-        ap (λ (b : Body). bodyOf b t x y) (sym o) ∙ fits-value text (braceOf k) (bodied .fits) differ t x y u v
+        ap (λ (b : Body). bodyOf b t x y) (sym o) ∙ sym (body-value text (braceOf k) (bodied .fits) differ t x y u v)
 
     -- so "a node the body on its left and right value", by any tree
     pub accepted-tree : (start : ℕ) (elements : List ℕ) → Value (elementOf (nodeAt text p vs k)) start → All (Value (elementOf (nodeAt text p vs k))) elements → (tree : Tree)

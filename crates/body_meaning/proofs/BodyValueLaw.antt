@@ -21,13 +21,15 @@ use Rattle.text.proofs.NameLaw.{same-bytes, bytes-same}
 use Rattle.optable.specs.declared.Class.{Class}
 use Rattle.optable.specs.declared.Reducer.{Reducer}
 use Rattle.optable.specs.declared.Reducer.the-variants.{Not, By}
-use Rattle.optable.specs.Table.{rowAt}
+use Rattle.optable.specs.Table.{rowAt, mayReduce}
 use Rattle.optable.proofs.ByNamesLaw.{binaryFor, reducer-class}
 use Rattle.program.specs.declared.Parts.{Parts}
 use Rattle.program.specs.Parts.{bodyAt}
 use Rattle.places.specs.Places.{opName, resultName, operandName, inputName, placeOf}
 use Rattle.scope.specs.Scope.{nameAt, sameAt}
 use Rattle.bodies.specs.Bodies.{innerOp, bodyCounted, opCounted, rowNamed, isReducer, operandIs, onBoth, returnsIt, oneType, formed, bodyFits, bodyRow}
+use Rattle.bodies.proofs.BodiesLaw.{fits-reducer}
+use Rattle.nodes.specs.Nodes.{operationBy, reducerAt}
 use Rattle.body_meaning.specs.BodyValue.{bind, namedValue, onTwo, bodyValue}
 
 -- ---- names
@@ -87,13 +89,24 @@ either : {A : Type 0} (a b : Bool) → a || b ≡ true → (a ≡ true → A) �
 either true b e f g = f refl
 either false b e f g = g e
 
+-- where an op may be a body's, its operation is the one that evaluating takes
+operation-of : (r : Reducer) → mayReduce r ≡ true → r ≡ By (operationBy r)
+operation-of Not e = absurd (false≢true e)
+operation-of (By b) e = refl
+
 module _ (text : List ℕ) (at : ℕ) (fits : bodyFits text at ≡ true)
     -- the names of its arguments differ: in an accepted text they do (ArgumentLaw)
     (differ : sameAt text (placeOf (bodyAt text at) inputName 0) (placeOf (bodyAt text at) inputName 1) ≡ false)
-    (b : Body) (is : rowAt (bodyRow text at) .reducer ≡ By b)
     (t : ElementType) (x y : ℕ) (u : Value t x) (v : Value t y) where
   abbrev parts : Parts
   parts = bodyAt text at
+
+  abbrev operation : Body
+  operation = reducerAt (bodyRow text at)
+
+  is-operation : rowAt (bodyRow text at) .reducer ≡ By operation
+  unfolding reducerAt isReducer
+  is-operation = operation-of (rowAt (bodyRow text at) .reducer) (fits-reducer text at fits)
 
   -- the value of operand j
   abbrev operand : ℕ → ℕ
@@ -108,15 +121,15 @@ module _ (text : List ℕ) (at : ℕ) (fits : bodyFits text at ≡ true)
   is-right j e = rw (not-other text (placeOf parts operandName j) (placeOf parts inputName 0) (placeOf parts inputName 1) differ e, e)
 
   -- "on both, each once, either way round"
-  on-operands : onTwo (rowAt (bodyRow text at) .class) t (operand 0) (operand 1) ≡ bodyOf b t x y
+  on-operands : onTwo (rowAt (bodyRow text at) .class) t (operand 0) (operand 1) ≡ bodyOf operation t x y
   unfolding onBoth
   on-operands =
       let f : ℕ → ℕ → Bool = operandIs text parts in
       either (f 0 0 && f 1 1) (f 0 1 && f 1 0) (form text at fits .both)
-      (λ e. let h = both-true (f 0 0) (f 1 1) e in rw (is-left 0 (h .0), is-right 1 (h .1)) (on-two (bodyRow text at) b is t x y))
-      (λ e. let h = both-true (f 0 1) (f 1 0) e in rw (is-right 0 (h .0), is-left 1 (h .1)) (on-two (bodyRow text at) b is t y x ∙ body-commutative b t y x v u))
+      (λ e. let h = both-true (f 0 0) (f 1 1) e in rw (is-left 0 (h .0), is-right 1 (h .1)) (on-two (bodyRow text at) operation is-operation t x y))
+      (λ e. let h = both-true (f 0 1) (f 1 0) e in rw (is-right 0 (h .0), is-left 1 (h .1)) (on-two (bodyRow text at) operation is-operation t y x ∙ body-commutative operation t y x v u))
 
   -- "and returns it"
-  pub body-value : bodyValue text at t x y ≡ bodyOf b t x y
+  pub body-value : bodyValue text at t x y ≡ bodyOf (reducerAt (bodyRow text at)) t x y
   unfolding bodyValue namedValue returnsIt
   body-value = rw (form text at fits .returned) on-operands
