@@ -137,3 +137,8 @@ pub fn evaluate(text: &[u8], inputs: &[u64], store: &mut [u64]) -> Answer {
         )
     }
 }
+
+/// The example of the README, run as a test.
+#[cfg(doctest)]
+#[doc = include_str!("../../README.md")]
+struct Readme;

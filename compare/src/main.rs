@@ -4,7 +4,8 @@
 //! `compare check SEED COUNT [limits]`: generated cases of a family, the proved code against the second evaluator:
 //! refusals 0 to 4 by reading alone, refusals 0 to 8 by checking, and refusals 0 to 12 with every slot of the store by
 //! evaluating.
-//! `compare prefixes FOLDER`: every prefix of every `.mlir` file of a folder, refusals 0 to 8.
+//! `compare prefixes FOLDER`: every prefix of every `.mlir` file of a folder, refusals 0 to 8; of a text of 65,530 bytes
+//! or more only those of so many.
 //! `compare hostile`: texts made to exhaust a reader, read, checked and evaluated, with their time: reading in a thread
 //! with a stack of 1 MiB, the others in one of 4 MiB; each has to end within a second.
 //! `compare within BYTES read|check|evaluate FILE`: one text in a thread with a stack of so many bytes; where that is too
@@ -97,6 +98,9 @@ fn compare_case(family: Family, seed: u64, index: u64) -> (Answer, Vec<String>) 
     (ran, found)
 }
 
+/// Of a text of so many bytes shorter prefixes are left out: they take long, and end in its comments.
+const LONG: usize = 65_530;
+
 /// Every prefix of every program of a folder.
 fn compare_prefixes(folder: &str) -> Result<bool, String> {
     let (mut texts, mut differences) = (0, 0);
@@ -106,7 +110,8 @@ fn compare_prefixes(folder: &str) -> Result<bool, String> {
             continue;
         }
         let text = std::fs::read(&path).map_err(|error| format!("{}: {error}", path.display()))?;
-        for length in 0..=text.len() {
+        let shortest = if text.len() < LONG { 0 } else { LONG };
+        for length in shortest..=text.len() {
             let (ours, theirs) = (proved(Depth::Check, &text[..length]), expected(Depth::Check, &text[..length]));
             texts += 1;
             if ours != theirs {

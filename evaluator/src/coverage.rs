@@ -1,9 +1,11 @@
 //! The coverage of generated cases: how often each refusal, each size number, each op of accepted
-//! programs and each constraint number of each op occurs.
+//! programs and each constraint number of each op occurs; and near sizes 3 and 4 how often each refusal
+//! that reading does not give.
 
 use crate::cases::{self, Family, OPS, PAIRS};
+use crate::program::Program;
 use crate::stream::{old_store, Case};
-use crate::Answer;
+use crate::{sizes, Answer};
 use std::collections::BTreeMap;
 
 /// What was counted of a family's cases, each with a name of its own.
@@ -27,6 +29,37 @@ fn op_name(mnemonic: &str) -> String {
 
 fn constraint_name(mnemonic: &str, c: u64) -> String {
     format!("constraint {mnemonic} C{c}")
+}
+
+/// What a text is near to.
+const NEAR: [&str; 4] = [
+    "near 8,192 elements",
+    "near 256 ops",
+    "near 8,192 elements, an op without result types",
+    "near 256 ops, an op without result types",
+];
+
+fn near_name(refusal: u64, near: &str) -> String {
+    format!("refusal {refusal} {near}")
+}
+
+/// The refusals of texts that reading passes, each with what they have to occur near to. An op without
+/// result types is refused, so the last two stand beside refusals 5 to 8.
+fn near_names() -> Vec<String> {
+    let beside = |refusal: u64| if (5..=8).contains(&refusal) { 4 } else { 2 };
+    let of = |refusal: u64| NEAR[..beside(refusal)].iter().map(move |near| near_name(refusal, near));
+    [0].into_iter().chain(5..=12).flat_map(of).collect()
+}
+
+/// Which of `NEAR` a program is: at most two elements below size 3, at most one op below size 4.
+fn near(program: &Program) -> Vec<&'static str> {
+    let inputs = program.inputs.iter().map(|input| input.tensor.elements());
+    let results = program.ops.iter().flat_map(|op| &op.result_types).map(|tensor| tensor.elements());
+    let elements = inputs.chain(results).sum::<usize>() + 2 >= sizes::ELEMENTS;
+    let ops = program.ops.len() + 1 >= sizes::OPS;
+    let without = program.ops.iter().any(|op| op.result_types.is_empty());
+    let which = [elements, ops, elements && without, ops && without];
+    NEAR.into_iter().zip(which).filter(|pair| pair.1).map(|pair| pair.0).collect()
 }
 
 impl Coverage {
@@ -55,7 +88,13 @@ impl Coverage {
         if answer.refusal == 8 {
             self.add_constraint(case, answer);
         }
-        if let Ok(program) = crate::accept(&case.text) {
+        let Ok(program) = crate::read(&case.text) else { return };
+        if self.family == Family::Limits {
+            for near in near(&program) {
+                self.count(near_name(answer.refusal, near));
+            }
+        }
+        if answer.refusal == 0 || answer.refusal > 8 {
             for op in &program.ops {
                 self.count(op_name(short(op.mnemonic.name())));
             }
@@ -79,7 +118,8 @@ impl Coverage {
         let sizes = sizes.into_iter().map(size_name);
         let ops = OPS.iter().map(|op| op_name(op));
         let constraints = PAIRS.iter().map(|(op, c)| constraint_name(op, *c));
-        refusals.chain(sizes).chain(ops).chain(constraints).collect()
+        let near = if family == Family::Limits { near_names() } else { Vec::new() };
+        refusals.chain(sizes).chain(near).chain(ops).chain(constraints).collect()
     }
 
     pub fn occurred(&self, name: &str) -> u64 {
@@ -93,7 +133,7 @@ impl Coverage {
 
     /// What occurred although no case can have it.
     pub fn unforeseen(&self) -> Vec<String> {
-        let possible = Coverage::wanted(Family::General);
+        let possible = [Coverage::wanted(Family::General), Coverage::wanted(self.family)].concat();
         self.counts.keys().filter(|name| !possible.contains(name)).cloned().collect()
     }
 }

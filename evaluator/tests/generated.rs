@@ -37,7 +37,7 @@ fn the_same_seed_gives_the_same_cases() {
 #[test]
 fn the_first_cases_are_known() {
     let known = |family| format!("{:016x}", hash(&stream_of(family, SEED, 1000)));
-    assert_eq!(FAMILIES.map(known), ["2948d0fb62c51beb", "e7a7997baf4f236a"]);
+    assert_eq!(FAMILIES.map(known), ["2948d0fb62c51beb", "e60672d4756aba96"]);
 }
 
 #[test]

@@ -1,27 +1,12 @@
--- Worked examples: the rows of 01's table, and those of 000.
+-- Worked examples: those of 000, and readings that 01 rules out.
 -- Assumes nothing.
 use mathlib.Core.Path.{_≡_, refl}
 use mathlib.Core.List.{[], _∷_}
 use Rattle.lists.specs.Lists.{firstWhere}
 use Rattle.element.specs.Types.{valueOf, wrapTo}
-use Rattle.element.specs.declared.ElementType.the-variants.{I8, I32, I64, U8, U64}
+use Rattle.element.specs.declared.ElementType.the-variants.{I32, I64, U64}
 use Rattle.maps.specs.Formulas.{reshaped, broadcasted, transposed, sliced, reversed, padded, dynamicSliced, counted}
 use Rattle.maps.specs.Concatenation.{concatenated}
-
--- 01: "slice of 5, start 1, limit 5, stride 2: elements 1 and 3"; "pad [1, 2, 3] with 0, low -1, interior 1, high 2: [0, 2, 0, 3, 0, 0]";
--- "dynamic_slice size 1 of [1650, 1675, 1700, 1725]: ui8 255 gives [1725], i8 -1 gives [1650]". -1 is 2^64 - 1 in 64 bits.
-abbrev pub PaperRows : Type 0
-PaperRows =
-    (sliced (1 ∷ []) (2 ∷ []) (5 ∷ []) (2 ∷ []) (0 ∷ 1 ∷ 2 ∷ 3 ∷ 4 ∷ []) ≡ 1 ∷ 3 ∷ [])
-    × (padded (18446744073709551615 ∷ []) (1 ∷ []) (3 ∷ []) (6 ∷ []) (1 ∷ 2 ∷ 3 ∷ []) 0 ≡ 0 ∷ 2 ∷ 0 ∷ 3 ∷ 0 ∷ 0 ∷ [])
-    × (dynamicSliced U8 (255 ∷ []) (4 ∷ []) (1 ∷ []) (1650 ∷ 1675 ∷ 1700 ∷ 1725 ∷ []) ≡ 1725 ∷ [])
-    × (dynamicSliced I8 (18446744073709551615 ∷ []) (4 ∷ []) (1 ∷ []) (1650 ∷ 1675 ∷ 1700 ∷ 1725 ∷ []) ≡ 1650 ∷ [])
-
-pub paper-rows : PaperRows
-unfolding valueOf
-paper-rows = (refl, refl, refl, refl)
-
--- ---- 000's examples
 
 pub reshape-example : reshaped (2 ∷ 3 ∷ []) (3 ∷ 2 ∷ []) (1 ∷ 2 ∷ 3 ∷ 4 ∷ 5 ∷ 6 ∷ []) ≡ 1 ∷ 2 ∷ 3 ∷ 4 ∷ 5 ∷ 6 ∷ []
 reshape-example = refl

@@ -1,36 +1,219 @@
 -- 01, "Table of examples": "The rows marked P are proved about the definitions, as one table under one statement."
--- A row has what the definitions give, as slots, and what the paper says. The rows on single values are those of the crate scalar.
+-- A row is an op as the verifier judges it and the evaluation runs it, on the paper's operands, and the result that the paper has.
 -- Assumes nothing.
 use mathlib.Core.Path.{_≡_}
-use mathlib.Core.List.{List, [], _∷_, _++_, map}
-use Prim.Native.Nat.{ℕ}
-use lib.IntN.{pos, negℤ}
-use Rattle.element.specs.Types.{slotOf}
-use Rattle.element.specs.declared.ElementType.the-variants.{I8, I32, U8}
-use Rattle.scalar.specs.Examples.{Row, scalarRows}
+use mathlib.Core.Bool.{Bool, true, _&&_}
+use mathlib.Core.List.{List, [], _∷_, map}
+use Prim.Native.Nat.{ℕ, _-_}
+use lib.Dec.{eqb}
+use lib.IntN.{ℤ, pos, negℤ, _+ℤ_, _*ℤ_}
+use lib.ListN.{length}
+use Rattle.lists.specs.Lists.{allBelow}
+use Rattle.run.specs.Run.{Out, gives}
+use Rattle.run.specs.Ways.{byFold}
+use Rattle.element.specs.Types.{slotOf, isValue}
+use Rattle.element.specs.declared.ElementType.{ElementType}
+use Rattle.element.specs.declared.ElementType.the-variants.{I1, I8, I32, U8, U16}
+use Rattle.division.specs.declared.Division.the-variants.{Divide, Remainder}
+use Rattle.scalar.specs.declared.Unary.the-variants.{Abs}
+use Rattle.scalar.specs.declared.Binary.the-variants.{Add as Plus, And, ShiftRightArithmetic, ShiftRightLogical}
+use Rattle.scalar.specs.declared.Body.{Body}
 use Rattle.scalar.specs.declared.Body.the-variants.{Add}
-use Rattle.maps.specs.Formulas.{sliced, padded, dynamicSliced}
-use Rattle.reduction.specs.Rows.{reduced}
+use Rattle.shape.specs.Index.{at, size, inSix}
+use Rattle.shape.specs.Dims.{shapeFrom}
+use Rattle.reduction.specs.Rows.{keptShape}
+use Rattle.elementwise.specs.Elementwise.{Tensor}
+use Rattle.ops.specs.declared.Move.the-variants.{Slice}
+use Rattle.ops.specs.declared.Kind.{Kind}
+use Rattle.ops.specs.declared.Kind.the-variants.{Elementwise, Pairwise, Quotient, Convert, Clamp, Moved, Pad, DynamicSlice, Reduce}
+use Rattle.ops.specs.Ops.{hlo, wayOf}
+use Rattle.optable.specs.Table.{noChoice}
+use Rattle.dimrules.specs.Whole.{ceilDiv, upOf}
+use Rattle.dimrules.specs.Types.{noType}
+use Rattle.dimrules.specs.declared.TensorType.{TensorType}
+use Rattle.dimrules.specs.declared.Numbers.{Numbers}
+use Rattle.opcheck.specs.Judged.{brokenBy}
+use Rattle.opcheck.specs.declared.Operation.{Operation}
+use Rattle.facts.specs.Facts.{ruleOf, nodeFor}
 
--- the 64-bit pattern of -1
-abbrev minusOne : ℕ
-minusOne = slotOf (negℤ (pos 1))
+-- ---- what a row says
 
-abbrev pub shapeRows : List Row
-shapeRows =
-    -- slice of 5, start 1, limit 5, stride 2: elements 1 and 3
-    record { gives = sliced (1 ∷ []) (2 ∷ []) (5 ∷ []) (2 ∷ []) (0 ∷ 1 ∷ 2 ∷ 3 ∷ 4 ∷ []); is = 1 ∷ 3 ∷ [] }
-    -- pad [1, 2, 3] with 0, low -1, interior 1, high 2: [0, 2, 0, 3, 0, 0]
-    ∷ record { gives = padded (minusOne ∷ []) (1 ∷ []) (3 ∷ []) (6 ∷ []) (1 ∷ 2 ∷ 3 ∷ []) 0; is = 0 ∷ 2 ∷ 0 ∷ 3 ∷ 0 ∷ 0 ∷ [] }
-    -- dynamic_slice size 1 of [1650, 1675, 1700, 1725]: ui8 255 gives [1725], i8 -1 gives [1650]
-    ∷ record { gives = dynamicSliced U8 (255 ∷ []) (4 ∷ []) (1 ∷ []) (1650 ∷ 1675 ∷ 1700 ∷ 1725 ∷ []); is = 1725 ∷ [] }
-    ∷ record { gives = dynamicSliced I8 (minusOne ∷ []) (4 ∷ []) (1 ∷ []) (1650 ∷ 1675 ∷ 1700 ∷ 1725 ∷ []); is = 1650 ∷ [] }
-    -- reduce add over dimension 1 of [[1, 2, 3], [4, 5, 6]], start 0: [6, 15]
-    ∷ record { gives = reduced Add I32 (1 ∷ []) (2 ∷ 3 ∷ []) (2 ∷ []) 0 (1 ∷ 2 ∷ 3 ∷ 4 ∷ 5 ∷ 6 ∷ []); is = 6 ∷ 15 ∷ [] } ∷ []
+-- a tensor with its type; the elements are slots in canonical order
+pub record Typed : Type 0 where
+  pub element : ElementType
+  pub dims : List ℕ
+  pub elements : Tensor
+
+-- a, b and c are the op's attribute lists in the order of its row of the op table
+pub record Row : Type 0 where
+  pub kind : Kind
+  pub operands : List Typed
+  pub a : List ℕ
+  pub b : List ℕ
+  pub c : List ℕ
+  pub result : Typed
+
+-- what comes of a row: whether its tensors are of their types; the verifier's first broken constraint, 0 for none (refusal 8); what the evaluation gives
+pub record Outcome : Type 0 where
+  pub typed : Bool
+  pub broken : ℕ
+  pub out : Out Tensor ℕ
+
+-- as many elements as the shape has, each a value of the element type
+abbrev pub isTyped : Typed → Bool
+isTyped x = eqb (length (x .elements)) (size (x .dims)) && allBelow (length (x .elements)) (λ k. isValue (x .element) (at (x .elements) k))
+
+abbrev pub allTyped : List Typed → Bool
+allTyped [] = true
+allTyped (x ∷ xs) = isTyped x && allTyped xs
+
+abbrev pub typeOf : Typed → TensorType
+typeOf x = record { element = x .element; shape = shapeFrom (x .dims) }
+
+abbrev pub numbersOf : List ℕ → Numbers
+numbersOf l = record { count = length l; list = inSix l }
+
+-- the op as it is read; choice and value are compare's and constant's, left and right the types of a body's arguments, of rank 0
+abbrev pub operationOf : Row → Operation
+operationOf r =
+    let argument : TensorType = record { element = r .result .element; shape = shapeFrom [] } in
+    record {
+      arity = length (r .operands);
+      types = map typeOf (r .operands);
+      result = typeOf (r .result);
+      a = numbersOf (r .a);
+      b = numbersOf (r .b);
+      c = numbersOf (r .c);
+      choice = noChoice;
+      value = noType;
+      left = argument;
+      right = argument;
+    }
+
+-- the op of a row on its operands, as the evaluation runs an op
+abbrev pub rowGives : Row → Out Tensor ℕ
+rowGives r = byFold hlo (wayOf (nodeFor (r .kind) (operationOf r) [] []) (r .kind) (map (λ x. x .elements) (r .operands)))
+
+abbrev pub outcomeOf : Row → Outcome
+outcomeOf r =
+    record {
+      typed = allTyped (r .result ∷ r .operands);
+      broken = brokenBy (ruleOf (r .kind)) (operationOf r);
+      out = rowGives r;
+    }
+
+-- what the paper says of a row
+abbrev pub saidOf : Row → Outcome
+saidOf r = record { typed = true; broken = 0; out = gives (r .result .elements) }
+
+-- ---- how rows are written; where the paper gives no element type, i32
+
+-- the slot of -k
+abbrev minus : ℕ → ℕ
+minus k = slotOf (negℤ (pos k))
+
+abbrev tensor : ElementType → List ℕ → Tensor → Typed
+tensor e dims xs = record { element = e; dims = dims; elements = xs }
+
+-- one value, of rank 0
+abbrev single : ElementType → ℕ → Typed
+single e x = tensor e [] (x ∷ [])
+
+-- a list of values, of rank 1
+abbrev list : ElementType → Tensor → Typed
+list e xs = tensor e (length xs ∷ []) xs
+
+-- an op without attributes
+abbrev row : Kind → List Typed → Typed → Row
+row kind operands result = record { kind = kind; operands = operands; a = []; b = []; c = []; result = result }
+
+-- "slice: .. C5 result size is the ceiling of (limit - start) / stride"
+abbrev slice : Tensor → ℕ → ℕ → ℕ → Tensor → Row
+slice x start limit stride is =
+    record {
+      kind = Moved Slice;
+      operands = list I32 x ∷ [];
+      a = start ∷ [];
+      b = limit ∷ [];
+      c = stride ∷ [];
+      result = tensor I32 (ceilDiv (limit - start) stride ∷ []) is;
+    }
+
+-- "pad: .. Size: operand + low + max(operand - 1, 0) x interior + high"
+abbrev padSize : ℕ → ℤ → ℤ → ℤ → ℕ
+padSize n low interior high = upOf (pos n +ℤ low +ℤ pos (n - 1) *ℤ interior +ℤ high)
+
+abbrev pad : Tensor → ℕ → ℤ → ℤ → ℤ → Tensor → Row
+pad x value low interior high is =
+    record {
+      kind = Pad;
+      operands = list I32 x ∷ single I32 value ∷ [];
+      a = slotOf low ∷ [];
+      b = slotOf high ∷ [];
+      c = slotOf interior ∷ [];
+      result = tensor I32 (padSize (length x) low interior high ∷ []) is;
+    }
+
+-- the result has the slice size; ui16 as in the program below the table
+abbrev dynamicSlice : ℕ → Tensor → Typed → Tensor → Row
+dynamicSlice sliceSize x start is =
+    record {
+      kind = DynamicSlice;
+      operands = list U16 x ∷ start ∷ [];
+      a = sliceSize ∷ [];
+      b = [];
+      c = [];
+      result = tensor U16 (sliceSize ∷ []) is;
+    }
+
+-- the result has the dimensions that are not reduced
+abbrev reduce : Body → ℕ → List ℕ → Tensor → ℕ → Tensor → Row
+reduce body dimension dims x start is =
+    record {
+      kind = Reduce body;
+      operands = tensor I32 dims x ∷ single I32 start ∷ [];
+      a = dimension ∷ [];
+      b = [];
+      c = [];
+      result = tensor I32 (keptShape (dimension ∷ []) dims) is;
+    }
+
+-- ---- the rows marked P, in 01's order
 
 abbrev pub markedRows : List Row
-markedRows = scalarRows ++ shapeRows
+markedRows =
+    -- "P divide i32 [17, -17, 17, -17] by [3, 3, -3, -3]: [5, -5, -5, 5]; P remainder: [2, -2, 2, -2] (003)."
+    row (Quotient Divide) (list I32 (17 ∷ minus 17 ∷ 17 ∷ minus 17 ∷ []) ∷ list I32 (3 ∷ 3 ∷ minus 3 ∷ minus 3 ∷ []) ∷ []) (list I32 (5 ∷ minus 5 ∷ minus 5 ∷ 5 ∷ []))
+    ∷ row (Quotient Remainder) (list I32 (17 ∷ minus 17 ∷ 17 ∷ minus 17 ∷ []) ∷ list I32 (3 ∷ 3 ∷ minus 3 ∷ minus 3 ∷ []) ∷ []) (list I32 (2 ∷ minus 2 ∷ 2 ∷ minus 2 ∷ []))
+    -- "P i8 -128 / -1: -128, remainder 0. P abs i8 -128: 127."
+    ∷ row (Quotient Divide) (single I8 (minus 128) ∷ single I8 (minus 1) ∷ []) (single I8 (minus 128))
+    ∷ row (Quotient Remainder) (single I8 (minus 128) ∷ single I8 (minus 1) ∷ []) (single I8 0)
+    ∷ row (Elementwise Abs) (single I8 (minus 128) ∷ []) (single I8 127)
+    -- "P i8 127 + 1 = -128; ui8 255 + 1 = 0; i1 true + true = true."
+    ∷ row (Pairwise Plus) (single I8 127 ∷ single I8 1 ∷ []) (single I8 (minus 128))
+    ∷ row (Pairwise Plus) (single U8 255 ∷ single U8 1 ∷ []) (single U8 0)
+    ∷ row (Pairwise Plus) (single I1 1 ∷ single I1 1 ∷ []) (single I1 1)
+    -- "P and [[1, 2], [3, 4]], [[5, 6], [7, 8]]: [[1, 2], [3, 0]] (003)."
+    ∷ row (Pairwise And) (tensor I32 (2 ∷ 2 ∷ []) (1 ∷ 2 ∷ 3 ∷ 4 ∷ []) ∷ tensor I32 (2 ∷ 2 ∷ []) (5 ∷ 6 ∷ 7 ∷ 8 ∷ []) ∷ []) (tensor I32 (2 ∷ 2 ∷ []) (1 ∷ 2 ∷ 3 ∷ 0 ∷ []))
+    -- "P convert i32 300 to ui8: 44; ui8 200 to i8: -56."
+    ∷ row Convert (single I32 300 ∷ []) (single U8 44)
+    ∷ row Convert (single U8 200 ∷ []) (single I8 (minus 56))
+    -- "P i8 -128 arithmetic right by 8: -1; logical by 7: 1."
+    ∷ row (Pairwise ShiftRightArithmetic) (single I8 (minus 128) ∷ single I8 8 ∷ []) (single I8 (minus 1))
+    ∷ row (Pairwise ShiftRightLogical) (single I8 (minus 128) ∷ single I8 7 ∷ []) (single I8 1)
+    -- "P clamp min 5, x 4, max 3: 3."
+    ∷ row Clamp (single I32 5 ∷ single I32 4 ∷ single I32 3 ∷ []) (single I32 3)
+    -- "P slice of 5, start 1, limit 5, stride 2: elements 1 and 3."
+    ∷ slice (0 ∷ 1 ∷ 2 ∷ 3 ∷ 4 ∷ []) 1 5 2 (1 ∷ 3 ∷ [])
+    -- "P pad [1, 2, 3] with 0, low -1, interior 1, high 2: [0, 2, 0, 3, 0, 0]."
+    ∷ pad (1 ∷ 2 ∷ 3 ∷ []) 0 (negℤ (pos 1)) (pos 1) (pos 2) (0 ∷ 2 ∷ 0 ∷ 3 ∷ 0 ∷ 0 ∷ [])
+    -- "P dynamic_slice size 1 of [1650, 1675, 1700, 1725]: ui8 255 gives [1725], i8 -1 gives [1650]."
+    ∷ dynamicSlice 1 (1650 ∷ 1675 ∷ 1700 ∷ 1725 ∷ []) (single U8 255) (1725 ∷ [])
+    ∷ dynamicSlice 1 (1650 ∷ 1675 ∷ 1700 ∷ 1725 ∷ []) (single I8 (minus 1)) (1650 ∷ [])
+    -- "P reduce add over dimension 1 of [[1, 2, 3], [4, 5, 6]], start 0: [6, 15]."
+    ∷ reduce Add 1 (2 ∷ 3 ∷ []) (1 ∷ 2 ∷ 3 ∷ 4 ∷ 5 ∷ 6 ∷ []) 0 (6 ∷ 15 ∷ [])
+    ∷ []
 
--- every row gives what the paper says
+-- of every row: its tensors are of their types, the verifier finds no broken constraint, and the evaluation gives what the paper says
 abbrev pub MarkedRowsHold : Type 0
-MarkedRowsHold = map (λ (r : Row). r .gives) markedRows ≡ map (λ (r : Row). r .is) markedRows
+MarkedRowsHold = map outcomeOf markedRows ≡ map saidOf markedRows

@@ -1,5 +1,5 @@
--- A program of paper 01's ops, evaluated and run freely: "reduce add over dimension 1 of [[1, 2, 3], [4, 5, 6]], start 0: [6, 15]", of an input that
--- is doubled and halved first.
+-- A program of paper 01's ops, evaluated and run freely: an input of shape 2x3 is added to itself and divided by another, and reduced by add over
+-- dimension 1.
 -- Assumes nothing.
 use mathlib.Core.Path.{_≡_, refl, subst}
 use mathlib.Core.List.{List, [], _∷_, map}

@@ -1,4 +1,4 @@
--- Worked examples: the row of 01's table, 000's example, and reductions over no elements.
+-- Worked examples: 000's example, and reductions over no elements.
 -- Assumes nothing.
 use mathlib.Core.Path.{_≡_, refl}
 use mathlib.Core.List.{[], _∷_}
@@ -8,11 +8,6 @@ use Rattle.element.specs.declared.ElementType.the-variants.{I32, I64}
 use Rattle.scalar.specs.Ops.{addOf}
 use Rattle.scalar.specs.declared.Body.the-variants.{Add}
 use Rattle.reduction.specs.Rows.{rowsOf, reduced}
-
--- 01: "reduce add over dimension 1 of [[1, 2, 3], [4, 5, 6]], start 0: [6, 15]"
-pub paper-row : reduced Add I32 (1 ∷ []) (2 ∷ 3 ∷ []) (2 ∷ []) 0 (1 ∷ 2 ∷ 3 ∷ 4 ∷ 5 ∷ 6 ∷ []) ≡ 6 ∷ 15 ∷ []
-unfolding firstWhere valueOf wrapTo addOf
-paper-row = refl
 
 -- 000's example
 pub reduce-example : reduced Add I64 (1 ∷ []) (1 ∷ 6 ∷ []) (1 ∷ []) 0 (0 ∷ 1 ∷ 2 ∷ 3 ∷ 4 ∷ 5 ∷ []) ≡ 15 ∷ []

@@ -5,3 +5,4 @@ pub mod Order
 pub mod Algebra
 pub mod Closed
 pub mod Reduce
+pub mod Examples

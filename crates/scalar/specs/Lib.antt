@@ -1,3 +1,2 @@
 pub mod Ops
 pub mod Body
-pub mod Examples

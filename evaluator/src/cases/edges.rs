@@ -151,6 +151,13 @@ fn no_elements(b: &mut Builder) {
 pub fn zero_divisor(random: &mut Random) -> (Function, u64, u64) {
     let mut b = Builder::new(random, CAREFUL);
     super::some_ops(&mut b, 4);
+    let (op, element) = push_zero_divisor(&mut b);
+    super::some_ops(&mut b, 3);
+    (b.finish(), op, element)
+}
+
+/// Adds an op that meets a zero divisor: its place and its first such element.
+pub fn push_zero_divisor(b: &mut Builder) -> (u64, u64) {
     let element = element(b.random, integer);
     let shapes: [&[u64]; 5] = [&[], &[1], &[7], &[2, 3], &[2, 1, 2, 1, 2, 1]];
     let tensor = Type::new(element, b.random.pick::<&[u64]>(&shapes));
@@ -168,8 +175,7 @@ pub fn zero_divisor(random: &mut Random) -> (Function, u64, u64) {
     let op = b.op_on(mnemonic, &[&x, &y], &tensor);
     let place = b.ops.len() as u64;
     b.push(op);
-    super::some_ops(&mut b, 3);
-    (b.finish(), place, first as u64)
+    (place, first as u64)
 }
 
 /// The slots of inputs for a function.

@@ -23,8 +23,9 @@ const MOST_OPS: usize = 256;
 const WIDEST: u64 = 4096;
 
 /// The kinds of the family, each with its share of 1,000.
-pub const KINDS: [Kind; 11] = [
-    (150, "limits: accepted", accepted),
+pub const KINDS: [Kind; 12] = [
+    (120, "limits: accepted", accepted),
+    (30, "limits: zero divisor", zero_divisor),
     (80, "limits: store and inputs", store_and_inputs),
     (60, "limits: header", |random| faulty(random, header)),
     (120, "limits: name not defined", |random| faulty(random, not_defined)),
@@ -46,6 +47,8 @@ enum Fault {
     Typing(usize),
     /// 8 at an op, with its C number.
     Constraint(usize, u64),
+    /// 12 at an op and its element.
+    ZeroDivisor(u64, u64),
 }
 
 impl Fault {
@@ -55,6 +58,7 @@ impl Fault {
             Fault::Name(refusal, spot) => answer(*refusal, text.starts[spot.find(pieces)] as u64, 0),
             Fault::Typing(op) => answer(7, *op as u64, 0),
             Fault::Constraint(op, c) => answer(8, *op as u64, *c),
+            Fault::ZeroDivisor(op, element) => answer(12, *op, *element),
         }
     }
 }
@@ -81,9 +85,14 @@ impl Target {
     }
 }
 
+/// Small tensors, and divisors that may be zero.
+const CARELESS: Plan = Plan { most: 4, inputs: 3, identity_starts: false, careless: 3 };
+
+/// Small tensors, and no divisor that is zero by accident.
+const CAREFUL: Plan = Plan { careless: 1 << 40, ..CARELESS };
+
 /// A builder with some valid ops, of which a few are wide.
-fn started(random: &mut Random, target: Target) -> Builder<'_> {
-    let plan = Plan { most: 4, inputs: 3, identity_starts: false, careless: 3 };
+fn started(random: &mut Random, plan: Plan, target: Target) -> Builder<'_> {
     let mut b = Builder::new(random, plan);
     let before = match target.ops {
         Some(_) => b.random.place(MOST_OPS - 30),
@@ -390,7 +399,8 @@ fn sealed(random: &mut Random, function: &Function, fault: &Fault) -> Option<(Ca
         Some((piece, size)) => answer(4, text.starts[piece] as u64, size),
         None => fault.answer(&pieces, &text),
     };
-    if expected == EVALUATED || random.chance(1, 4) {
+    let evaluated = matches!(fault, Fault::None | Fault::ZeroDivisor(..));
+    if evaluated || random.chance(1, 4) {
         return Some(seal(random, text.bytes, function, expected));
     }
     // A text that is refused is so on any inputs and over any store.
@@ -404,7 +414,7 @@ fn sealed(random: &mut Random, function: &Function, fault: &Fault) -> Option<(Ca
 fn faulty(random: &mut Random, add: fn(&mut Builder) -> Fault) -> (Case, Expected) {
     loop {
         let target = Target::random(random);
-        let mut b = started(random, target);
+        let mut b = started(random, CARELESS, target);
         let fault = add(&mut b);
         let after = b.ops.len();
         add_later_ops(&mut b, target);
@@ -422,21 +432,45 @@ fn faulty(random: &mut Random, add: fn(&mut Builder) -> Fault) -> (Case, Expecte
 /// A function without faults but, for some targets, of its sizes.
 fn sound_function(random: &mut Random) -> Function {
     let target = Target::random(random);
-    let mut b = started(random, target);
-    b.new_value(&Type::scalar(I8));
+    let mut b = started(random, CARELESS, target);
     if b.random.chance(1, 4) {
         let mnemonic = *b.random.pick(&["divide", "remainder"]);
         let op = b.make(mnemonic);
         b.push(op);
     }
+    add_sound_ops(&mut b, target);
+    let function = b.finish();
+    widened(random, function, target)
+}
+
+/// Sound ops up to the number wanted, and a small value for them.
+fn add_sound_ops(b: &mut Builder, target: Target) {
+    b.new_value(&Type::scalar(I8));
     while b.ops.len() < target.ops.unwrap_or(0) {
-        let op = filler(&mut b, true);
+        let op = filler(b, true);
         b.push(op);
     }
-    let mut function = b.finish();
+}
+
+/// The function with inputs up to the elements wanted.
+fn widened(random: &mut Random, mut function: Function, target: Target) -> Function {
     let end = function.ops.len();
     fill(random, &mut function, end, target);
     function
+}
+
+fn zero_divisor(random: &mut Random) -> (Case, Expected) {
+    loop {
+        let target = Target::random(random);
+        let mut b = started(random, CAREFUL, target);
+        let (op, element) = edges::push_zero_divisor(&mut b);
+        add_sound_ops(&mut b, target);
+        let function = b.finish();
+        let function = widened(random, function, target);
+        if let Some(case) = sealed(random, &function, &Fault::ZeroDivisor(op, element)) {
+            return case;
+        }
+    }
 }
 
 fn accepted(random: &mut Random) -> (Case, Expected) {
@@ -505,7 +539,7 @@ fn change_return(random: &mut Random, function: &mut Function) -> Fault {
 /// A text of the family with other tokens.
 fn mutated(random: &mut Random) -> (Case, Expected) {
     let target = Target::random(random);
-    let mut b = started(random, target);
+    let mut b = started(random, CARELESS, target);
     wrong_results(&mut b);
     let after = b.ops.len();
     add_later_ops(&mut b, target);

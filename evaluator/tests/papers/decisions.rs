@@ -73,6 +73,23 @@ fn op_05_no_hexadecimal() {
     refused_at_mark(&attributes("{dimension = 0§x10 : i64}"), 2, 0);
 }
 
+/// "Left out: floats, complex numbers": a literal of `dense` is a number without `.`, `true` or `false`, so a
+/// float fails at its `.` or exponent, whatever its type, and a complex number at its `(`.
+#[test]
+fn float_and_complex_literals_in_dense() {
+    for t in ["tensor<i8>", "tensor<f32>", "tensor<complex<f32>>"] {
+        for value in ["1§.5", "-1§.5", "+0§.0", "1§e5", "§.5", "§(1, 2)", "§(1.5, 2.5)", "§inf", "§nan", "0§x7F"]
+        {
+            refused_at_mark(&constant(value, t), 2, 0);
+        }
+    }
+    for value in ["[1, 2§.0]", "[§(1.0, 2.0), (3.0, 4.0)]", "[[1§.5]]"] {
+        refused_at_mark(&constant(value, "tensor<2xf64>"), 2, 0);
+    }
+    // The literal fits: then the type is the first unknown name.
+    refused_at_mark(&constant("1", "tensor<f32>").replacen("tensor", "§tensor", 1), 3, 0);
+}
+
 #[test]
 fn op_06_signs_and_leading_zeros() {
     let t = "tensor<3xui8>";
@@ -280,6 +297,8 @@ fn op_21_complex_and_quantized_elements() {
         "!quant.uniform<i8:f32,{}>",
         "!quant.uniform<i8:f32,{0.1,}>",
         "!quant.uniform<i8:f32, 0.1>",
+        // As 000 prints it (uniform_quantize): a tensor type is one token, and no token has a blank inside.
+        "2x!quant.uniform<i8:f32:0, {0.1:-30,0.5:-20}>",
         "!quant.uniform<i8<0>:f32,0.1>",
         "!quant.uniform<i8:f32:x,0.1>",
         "!quant.uniform<i8:f32,.5>",

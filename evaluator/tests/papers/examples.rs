@@ -35,6 +35,26 @@ fn every_example_prints_its_expected_output() {
     }
 }
 
+/// Each refusal that the evaluating program can answer. It lends 8,192 slots and size 3 lets no text need more, so 9
+/// does not occur; it feeds no inputs, so no slot of theirs can be wrong, and 11 does not occur.
+#[test]
+fn each_refusal_of_the_program_has_an_example() {
+    let mut refusals: BTreeSet<u64> = BTreeSet::new();
+    for (_, text) in examples() {
+        let answer = evaluator::evaluate(&text, &[], &mut vec![0; 8192]);
+        refusals.insert(answer.refusal);
+    }
+    let all: BTreeSet<u64> = (0..=12).filter(|refusal| *refusal != 9 && *refusal != 11).collect();
+    assert_eq!(refusals, all);
+}
+
+/// One byte more than 65,536, and many more.
+#[test]
+fn examples_of_texts_that_are_too_long() {
+    let long: Vec<usize> = examples().iter().map(|(_, text)| text.len()).filter(|length| *length > 65_536).collect();
+    assert_eq!(long, [65_537, 70_000]);
+}
+
 #[test]
 fn the_accepted_examples_use_all_34_ops() {
     let mut used: BTreeSet<&str> = BTreeSet::new();

@@ -1,70 +1,32 @@
--- Worked examples on single values: the rows of 01's table of examples that are marked P, and rows of 000 and of the edges for the
--- operations that it leaves out. A row has what the definitions give on slots and what they should.
+-- Worked examples on single values: those of 000, and the edges. A row has what the definitions give on slots and what they should.
 -- Assumes nothing.
 use mathlib.Core.Path.{_≡_, refl}
 use mathlib.Core.List.{List, [], _∷_, map}
-use Prim.Native.Nat.{ℕ, _^_}
+use Prim.Native.Nat.{ℕ}
 use lib.IntN.{pos, negℤ}
-use lib.Dec.{eqb}
 use lib.Count.{onesIn, leadingZeros}
-use Rattle.lists.specs.Lists.{pick}
 use Rattle.element.specs.Types.{slotOf, valueOf, wrapTo}
 use Rattle.element.specs.declared.ElementType.the-variants.{I1, I8, I16, I32, I64, U8, U16, U64}
-use Rattle.division.specs.Division.{divisionOf}
-use Rattle.division.specs.declared.Division.the-variants.{Divide, Remainder}
-use Rattle.scalar.specs.Ops.{unaryOf, binaryOf, compareOf, clampOf, selectOf, convertOf, iotaOf, addOf, subtractOf, multiplyOf, negateOf, absOf, signOf, ltOf, maximumOf, minimumOf, notOf, countLeadingZerosOf, popcntOf, shiftLeftOf, shiftRightArithmeticOf, shiftRightLogicalOf}
-use Rattle.scalar.specs.declared.Unary.the-variants.{Negate, Abs, Sign, Not, CountLeadingZeros, Popcnt}
-use Rattle.scalar.specs.declared.Binary.the-variants.{Add, Subtract, Multiply, Maximum, Minimum, And, Or, Xor, ShiftLeft, ShiftRightArithmetic, ShiftRightLogical}
+use Rattle.scalar.specs.Ops.{unaryOf, binaryOf, compareOf, clampOf, selectOf, convertOf, iotaOf, addOf, subtractOf, multiplyOf, negateOf, signOf, ltOf, maximumOf, minimumOf, notOf, countLeadingZerosOf, popcntOf, shiftLeftOf, shiftRightArithmeticOf, shiftRightLogicalOf}
+use Rattle.scalar.specs.declared.Unary.the-variants.{Negate, Sign, Not, CountLeadingZeros, Popcnt}
+use Rattle.scalar.specs.declared.Binary.the-variants.{Add, Subtract, Multiply, Maximum, Minimum, Or, Xor, ShiftLeft, ShiftRightArithmetic, ShiftRightLogical}
 use Rattle.scalar.specs.declared.Direction.the-variants.{Eq, Ne, Ge, Gt, Le, Lt}
 
-pub record Row : Type 0 where
-  pub gives : List ℕ
-  pub is : List ℕ
+record Row : Type 0 where
+  gives : List ℕ
+  is : List ℕ
 
 -- the slot of -k
 abbrev minus : ℕ → ℕ
 minus k = slotOf (negℤ (pos k))
-
--- no slot for a zero divisor
-abbrev result : ℕ × ℕ → ℕ
-result (refusal, v) = pick (eqb refusal 0) v (2 ^ 64)
 
 abbrev each : (ℕ → ℕ → ℕ) → List ℕ → List ℕ → List ℕ
 each f [] ys = []
 each f (x ∷ xs) [] = []
 each f (x ∷ xs) (y ∷ ys) = f x y ∷ each f xs ys
 
-abbrev pub scalarRows : List Row
-scalarRows =
-    -- divide i32 [17, -17, 17, -17] by [3, 3, -3, -3]: [5, -5, -5, 5]; remainder: [2, -2, 2, -2]
-    record {
-      gives = each (λ a b. result (divisionOf Divide I32 a b)) (17 ∷ minus 17 ∷ 17 ∷ minus 17 ∷ []) (3 ∷ 3 ∷ minus 3 ∷ minus 3 ∷ []);
-      is = 5 ∷ minus 5 ∷ minus 5 ∷ 5 ∷ [];
-    }
-    ∷ record {
-      gives = each (λ a b. result (divisionOf Remainder I32 a b)) (17 ∷ minus 17 ∷ 17 ∷ minus 17 ∷ []) (3 ∷ 3 ∷ minus 3 ∷ minus 3 ∷ []);
-      is = 2 ∷ minus 2 ∷ 2 ∷ minus 2 ∷ [];
-    }
-    -- i8 -128 / -1: -128, remainder 0; abs i8 -128: 127
-    ∷ record { gives = result (divisionOf Divide I8 (minus 128) (minus 1)) ∷ result (divisionOf Remainder I8 (minus 128) (minus 1)) ∷ []; is = minus 128 ∷ 0 ∷ [] }
-    ∷ record { gives = unaryOf Abs I8 (minus 128) ∷ []; is = 127 ∷ [] }
-    -- i8 127 + 1 = -128; ui8 255 + 1 = 0; i1 true + true = true
-    ∷ record { gives = binaryOf Add I8 127 1 ∷ binaryOf Add U8 255 1 ∷ binaryOf Add I1 1 1 ∷ []; is = minus 128 ∷ 0 ∷ 1 ∷ [] }
-    -- and [[1, 2], [3, 4]], [[5, 6], [7, 8]]: [[1, 2], [3, 0]]
-    ∷ record { gives = each (binaryOf And I32) (1 ∷ 2 ∷ 3 ∷ 4 ∷ []) (5 ∷ 6 ∷ 7 ∷ 8 ∷ []); is = 1 ∷ 2 ∷ 3 ∷ 0 ∷ [] }
-    -- convert i32 300 to ui8: 44; ui8 200 to i8: -56
-    ∷ record { gives = convertOf I32 U8 300 ∷ convertOf U8 I8 200 ∷ []; is = 44 ∷ minus 56 ∷ [] }
-    -- i8 -128 arithmetic right by 8: -1; logical by 7: 1
-    ∷ record { gives = binaryOf ShiftRightArithmetic I8 (minus 128) 8 ∷ binaryOf ShiftRightLogical I8 (minus 128) 7 ∷ []; is = minus 1 ∷ 1 ∷ [] }
-    -- clamp min 5, x 4, max 3: 3
-    ∷ record { gives = clampOf I32 5 4 3 ∷ []; is = 3 ∷ [] } ∷ []
-
-pub scalar-examples : map (λ (r : Row). r .gives) scalarRows ≡ map (λ (r : Row). r .is) scalarRows
-unfolding divisionOf absOf addOf convertOf shiftRightArithmeticOf shiftRightLogicalOf clampOf minimumOf maximumOf ltOf valueOf wrapTo
-scalar-examples = refl
-
-abbrev furtherRows : List Row
-furtherRows =
+abbrev rows : List Row
+rows =
     -- the examples of 000
     record { gives = map (unaryOf CountLeadingZeros I64) (0 ∷ 1 ∷ 128 ∷ minus 1 ∷ []); is = 64 ∷ 63 ∷ 56 ∷ 0 ∷ [] }
     ∷ record { gives = map (unaryOf Popcnt I64) (0 ∷ 1 ∷ 2 ∷ 127 ∷ []); is = 0 ∷ 1 ∷ 1 ∷ 7 ∷ [] }
@@ -95,6 +57,6 @@ furtherRows =
     -- counts over the width
     ∷ record { gives = unaryOf Popcnt I8 (minus 1) ∷ unaryOf CountLeadingZeros I16 300 ∷ unaryOf CountLeadingZeros U8 0 ∷ []; is = 8 ∷ 7 ∷ 8 ∷ [] } ∷ []
 
-further-examples : map (λ (r : Row). r .gives) furtherRows ≡ map (λ (r : Row). r .is) furtherRows
+examples : map (λ (r : Row). r .gives) rows ≡ map (λ (r : Row). r .is) rows
 unfolding addOf subtractOf multiplyOf negateOf iotaOf convertOf signOf ltOf maximumOf minimumOf compareOf notOf countLeadingZerosOf popcntOf shiftLeftOf shiftRightArithmeticOf shiftRightLogicalOf clampOf selectOf valueOf wrapTo onesIn leadingZeros
-further-examples = refl
+examples = refl

@@ -1,0 +1,4 @@
+pub mod BodyValueLaw
+pub mod ArgumentLaw
+pub mod GatherLaw
+pub mod AcceptedBodyLaw
