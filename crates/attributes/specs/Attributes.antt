@@ -4,7 +4,7 @@
 use Prim.Native.Nat.{ℕ, min}
 use mathlib.Core.List.{List, [], _∷_}
 use mathlib.Core.Bool.{Bool, true, _&&_}
-use lib.ListN.{getD, set, replicate}
+use lib.ListN.{length, getD, set, replicate}
 use lib.Dec.{ltb, eqb}
 use Rattle.lists.specs.Lists.{pick, tab, firstWhere}
 use Rattle.shape.specs.Dims.{dimsOf}
@@ -54,15 +54,19 @@ kindFits text name kind =
     eqb (formAt text name) kind
     && pick (eqb kind Dense) (denseFits text name) (pick (eqb kind Direction) (choiceFits text name kind) (pick (eqb kind CompareType) (choiceFits text name kind) true))
 
+-- the three columns of a row for its attributes
+abbrev pub columns : Row → List ℕ
+columns row = row .a ∷ row .b ∷ row .c ∷ []
+
 -- attribute j is neither foreign nor doubled nor of the wrong kind
 unfoldable pub attributeFits : List ℕ → Parts → Row → ℕ → Bool
 attributeFits text op row j =
     let k = attributeOf text op j in
-    ltb k noAttribute && ltb (slotIn row k) 3 && eqb (standsAt text op k) j && kindFits text (placeOf op attributeName j) (attributeKind k)
+    ltb k noAttribute && ltb (slotIn row k) (length (columns row)) && eqb (standsAt text op k) j && kindFits text (placeOf op attributeName j) (attributeKind k)
 
 -- the number of the attribute that must stand at place s of a row
 unfoldable pub neededAt : Row → ℕ → ℕ
-neededAt row s = getD (row .a ∷ row .b ∷ row .c ∷ []) s noAttribute
+neededAt row s = getD (columns row) s noAttribute
 
 -- the attributes are those of the row: each fits, and none is missing that must stand
 unfoldable pub attributesFit : List ℕ → Parts → Row → Bool

@@ -28,6 +28,9 @@ ghost use Prim.Native.Nat.{_<_};
 ghost use Rattle.dimrules.specs.Count.{firstFailing};
 ghost use Rattle.attributes.specs.Attributes.{attributesOf, attributeOf, standsAt, stands as «stands-in», choiceFits, denseFits, kindFits, attributeFits, neededAt, attributesFit, nameOf, numbersBy, numbersOf, choiceOf, denseType};
 
+// The columns of a row for its attributes.
+const COLUMNS: usize = 3;
+
 // How many attributes are told apart, at most eight.
 fn attributes_of(op: Parts) -> usize
     ensures { λ r. ⌜ r ≡ attributesOf op ⌝ }
@@ -111,7 +114,7 @@ fn attribute_fits(text: &[u8], op: Parts, row: Row, j: usize) -> bool
     if Attributes::NONE <= k {
         return false;
     }
-    if 3 <= attribute_slot(row, k) {
+    if COLUMNS <= attribute_slot(row, k) {
         return false;
     }
     if stands_at(text, op, k) != j {

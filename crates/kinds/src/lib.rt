@@ -3,159 +3,78 @@ use attribute::dense_at;
 use attributes::choice_of;
 use attributes::name_of;
 use bodies::body_row;
-use bodies::row_named;
-use division::Division;
 use ops::Kind;
-use ops::Move;
+use optable::Attributes;
+use optable::Class;
+use optable::Reducer;
+use optable::direction_at;
+use optable::op_row;
 use places::Part;
 use places::place_of;
 use program::Parts;
-use scalar::Binary;
 use scalar::Body;
-use scalar::Direction;
-use scalar::Unary;
+use typing::row_of;
 ghost use mathlib.Core.Path.{_≡_};
-ghost use Rattle.scalar.specs.declared.Direction.the-variants.{Eq};
-ghost use Rattle.scalar.specs.declared.Body.the-variants.{Add};
-ghost use Rattle.optable.specs.Table.{value};
+ghost use Rattle.ops.specs.declared.Kind.the-variants.{Compare, Reduce};
+ghost use Rattle.optable.specs.Table.{value, comparisonDirection, directionAt};
 ghost use Rattle.attribute.specs.Attribute.{denseAt};
-ghost use Rattle.attributes.specs.Attributes.{nameOf};
-ghost use Rattle.facts.specs.Facts.{kindAt};
-ghost use Rattle.nodes.specs.Nodes.{directionAt, reducerAt, kindOf};
+ghost use Rattle.places.specs.Places.{bodyOpen, placeOf};
+ghost use Rattle.attributes.specs.Attributes.{nameOf, choiceOf};
+ghost use Rattle.bodies.specs.Bodies.{bodyRow};
+ghost use Rattle.nodes.specs.Nodes.{operationBy, reducerAt, kindOf};
 
-// Rows of the op table.
-const ADD: usize = 1;
-
-const AND: usize = 2;
-
-const COMPARE: usize = 5;
-
-const MAXIMUM: usize = 13;
-
-const MINIMUM: usize = 14;
-
-const MULTIPLY: usize = 15;
-
-const OR: usize = 18;
-
-const REDUCE: usize = 21;
-
-// Attributes by their numbers.
-const VALUE: usize = 0;
-
-const COMPARISON_DIRECTION: usize = 13;
-
-// The choices of comparison_direction in their order.
-const DIRECTIONS: [Direction; 6] = [
-    Direction::Eq,
-    Direction::Ne,
-    Direction::Ge,
-    Direction::Gt,
-    Direction::Le,
-    Direction::Lt,
-];
-
-// The classes of the ops in the order of the op table; compare's direction and reduce's body stand for any.
-const KINDS: [Kind; 34] = [
-    Kind::Elementwise(Unary::Abs),
-    Kind::Pairwise(Binary::Add),
-    Kind::Pairwise(Binary::And),
-    Kind::Moved(Move::BroadcastInDim),
-    Kind::Clamp,
-    Kind::Compare(Direction::Eq),
-    Kind::Concatenate,
-    Kind::Constant,
-    Kind::Convert,
-    Kind::Elementwise(Unary::CountLeadingZeros),
-    Kind::Quotient(Division::Divide),
-    Kind::DynamicSlice,
-    Kind::Iota,
-    Kind::Pairwise(Binary::Maximum),
-    Kind::Pairwise(Binary::Minimum),
-    Kind::Pairwise(Binary::Multiply),
-    Kind::Elementwise(Unary::Negate),
-    Kind::Elementwise(Unary::Not),
-    Kind::Pairwise(Binary::Or),
-    Kind::Pad,
-    Kind::Elementwise(Unary::Popcnt),
-    Kind::Reduce(Body::Add),
-    Kind::Quotient(Division::Remainder),
-    Kind::Moved(Move::Reshape),
-    Kind::Moved(Move::Reverse),
-    Kind::Select,
-    Kind::Pairwise(Binary::ShiftLeft),
-    Kind::Pairwise(Binary::ShiftRightArithmetic),
-    Kind::Pairwise(Binary::ShiftRightLogical),
-    Kind::Elementwise(Unary::Sign),
-    Kind::Moved(Move::Slice),
-    Kind::Pairwise(Binary::Subtract),
-    Kind::Moved(Move::Transpose),
-    Kind::Pairwise(Binary::Xor),
-];
-
-// The direction that a choice is; EQ where it is none.
-fn direction_at(choice: usize) -> Direction
-    ensures { λ r. ⌜ r ≡ directionAt choice ⌝ }
+// The operation of a body of an op.
+fn operation_by(r: Reducer) -> Body
+    ensures { λ b. ⌜ b ≡ operationBy r ⌝ }
 {
-    if choice < 6 {
-        return DIRECTIONS[choice];
+    match r {
+        Reducer::Not => Body::Add,
+        Reducer::By(b) => b,
     }
-    Direction::Eq
 }
 
-// The op of a body by its row.
-fn reducer_at(row: usize) -> Body
-    ensures { λ r. ⌜ r ≡ reducerAt row ⌝ }
+// A compare by its direction.
+fn compare_of(text: &[u8], op: Parts) -> Kind
+    ensures { λ r. ⌜ r ≡ Compare (directionAt (choiceOf (now (text .entry)) op comparisonDirection)) ⌝ }
 {
-    if row == ADD {
-        return Body::Add;
-    }
-    if row == MULTIPLY {
-        return Body::Multiply;
-    }
-    if row == MAXIMUM {
-        return Body::Maximum;
-    }
-    if row == MINIMUM {
-        return Body::Minimum;
-    }
-    if row == AND {
-        return Body::And;
-    }
-    if row == OR {
-        return Body::Or;
-    }
-    Body::Xor
+    Kind::Compare(direction_at(choice_of(text, op, Attributes::COMPARISON_DIRECTION)))
 }
 
-// The class at row i of the table; past its end that of constants.
-fn kind_at(i: usize) -> Kind
-    ensures { λ r. ⌜ r ≡ kindAt Eq Add i ⌝ }
+// A reduce by the operation of its body.
+fn reduce_of(text: &[u8], op: Parts) -> Kind
+    ensures { λ r. ⌜ r ≡ Reduce (reducerAt (bodyRow (now (text .entry)) (placeOf op bodyOpen 0))) ⌝ }
 {
-    if i < 34 {
-        return KINDS[i];
-    }
-    Kind::Constant
+    let body = body_row(text, place_of(op, Part::BODY_OPEN, 0));
+    let reducer = op_row(body).reducer;
+    Kind::Reduce(operation_by(reducer))
 }
 
 // The class of an op.
 pub fn kind_of(text: &[u8], op: Parts) -> Kind
     ensures { λ r. ⌜ r ≡ kindOf (now (text .entry)) op ⌝ }
 {
-    let row = row_named(text, place_of(op, Part::OP_NAME, 0));
-    if row == COMPARE {
-        return Kind::Compare(direction_at(choice_of(text, op, COMPARISON_DIRECTION)));
+    let class = row_of(text, op).class;
+    match class {
+        Class::Constant => Kind::Constant,
+        Class::Iota => Kind::Iota,
+        Class::Elementwise(o) => Kind::Elementwise(o),
+        Class::Pairwise(o) => Kind::Pairwise(o),
+        Class::Quotient(o) => Kind::Quotient(o),
+        Class::Compare => compare_of(text, op),
+        Class::Convert => Kind::Convert,
+        Class::Select => Kind::Select,
+        Class::Clamp => Kind::Clamp,
+        Class::Moved(m) => Kind::Moved(m),
+        Class::Pad => Kind::Pad,
+        Class::Concatenate => Kind::Concatenate,
+        Class::DynamicSlice => Kind::DynamicSlice,
+        Class::Reduce => reduce_of(text, op),
     }
-    if row == REDUCE {
-        let body = body_row(text, place_of(op, Part::BODY_OPEN, 0));
-        return Kind::Reduce(reducer_at(body));
-    }
-    kind_at(row)
 }
 
 // The byte at which a constant's dense value begins.
 pub fn literal_of(text: &[u8], op: Parts) -> usize
     ensures { λ r. ⌜ r ≡ denseAt (now (text .entry)) (nameOf (now (text .entry)) op value) .literal ⌝ }
 {
-    dense_at(text, name_of(text, op, VALUE)).literal
+    dense_at(text, name_of(text, op, Attributes::VALUE)).literal
 }

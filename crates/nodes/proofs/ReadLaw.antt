@@ -15,18 +15,18 @@ use Rattle.lists.proofs.TabLaw.{length-tab, getD-tab}
 use Rattle.shape.specs.Index.{size}
 use Rattle.shape.specs.Dims.{dimsOf}
 use Rattle.elementwise.specs.Elementwise.{Holds}
-use Rattle.optable.specs.Table.{value, iotaDimension, dimension, Dense, Number, attributes, attributeKind, ops, rowAt, ruleCode}
-use Rattle.optable.specs.Find.{slotIn}
+use Rattle.optable.specs.Table.{value, iotaDimension, dimension, comparisonDirection, Dense, Number, Direction, noAttribute, attributes, attributeNames, attributeKind, choiceKind, ops, rowAt, ruleCode}
+use Rattle.optable.specs.Find.{same, placeIn, slotIn}
 use Rattle.optable.specs.declared.Row.{Row}
 use Rattle.optable.specs.declared.Rule.{Rule}
-use Rattle.optable.specs.declared.Rule.the-variants.{Concatenate as ConcatenateRule, Constant as ConstantRule, Iota as IotaRule}
-use Rattle.attribute.specs.Attribute.{formAt, denseAt}
+use Rattle.optable.specs.declared.Rule.the-variants.{Compare as CompareRule, Concatenate as ConcatenateRule, Constant as ConstantRule, Iota as IotaRule}
+use Rattle.attribute.specs.Attribute.{formAt, choiceAt, denseAt}
 use Rattle.dense.proofs.LengthLaw.{dense-length, dense-values}
 use Rattle.dimrules.specs.declared.TensorType.{TensorType}
 use Rattle.program.specs.declared.Parts.{Parts}
 use Rattle.places.specs.Places.{operandType, resultType, attributeName, bodyOpen, placeOf, blankType, typeIn, typeOfPart}
 use Rattle.places.proofs.TypeInLaw.{type-in-sized, type-in-six}
-use Rattle.attributes.specs.Attributes.{attributesOf, attributeOf, standsAt, stands, denseFits, kindFits, attributeFits, neededAt, attributesFit, nameOf, numbersBy, numbersOf, denseType}
+use Rattle.attributes.specs.Attributes.{attributesOf, attributeOf, standsAt, stands, choiceFits, denseFits, kindFits, attributeFits, neededAt, attributesFit, nameOf, numbersBy, numbersOf, choiceOf, denseType}
 use Rattle.attributes.proofs.AttributesLaw.{numbers-few, numbers-six, dense-type-sized, dense-type-six, attributes-each, attributes-needed}
 use Rattle.bodies.proofs.BodiesLaw.{argument-six}
 use Rattle.operands.specs.Operands.{arityOf}
@@ -82,23 +82,27 @@ abbrev asks : Rule → ℕ → Row → Bool
 asks r k row = pick (eqb (ruleCode (row .rule)) (ruleCode r)) (ltb 0 (row .needed) && eqb (row .a) k) true
 
 -- so in each of the table's rows
-first-asked : (r : Rule) (k : ℕ) → allBelow 34 (λ i. asks r k (rowAt i)) ≡ true → (i : ℕ) → i < 34 → rowAt i .rule ≡ r → (0 < rowAt i .needed) × (rowAt i .a ≡ k)
+first-asked : (r : Rule) (k : ℕ) → allBelow (length ops) (λ i. asks r k (rowAt i)) ≡ true → (i : ℕ) → i < length ops → rowAt i .rule ≡ r → (0 < rowAt i .needed) × (rowAt i .a ≡ k)
 first-asked r k all i l e =
     let row = rowAt i in
-    let h = both-true (ltb 0 (row .needed)) (eqb (row .a) k) (rw (eq-eqb (ruleCode (row .rule)) (ruleCode r) (rw e)) at (all-at 34 (λ i. asks r k (rowAt i)) i all l)) in
+    let h = both-true (ltb 0 (row .needed)) (eqb (row .a) k) (rw (eq-eqb (ruleCode (row .rule)) (ruleCode r) (rw e)) at (all-at (length ops) (λ i. asks r k (rowAt i)) i all l)) in
     (ltb-true 0 (row .needed) (h .0), eqb-true (row .a) k (h .1))
 
-constant-asks : allBelow 34 (λ i. asks ConstantRule value (rowAt i)) ≡ true
-unfolding allBelow rowAt ops ruleCode
+constant-asks : allBelow (length ops) (λ i. asks ConstantRule value (rowAt i)) ≡ true
+unfolding allBelow rowAt ops ruleCode attributes attributeNames placeIn firstWhere same
 constant-asks = refl
 
-iota-asks : allBelow 34 (λ i. asks IotaRule iotaDimension (rowAt i)) ≡ true
-unfolding allBelow rowAt ops ruleCode
+iota-asks : allBelow (length ops) (λ i. asks IotaRule iotaDimension (rowAt i)) ≡ true
+unfolding allBelow rowAt ops ruleCode attributes attributeNames placeIn firstWhere same
 iota-asks = refl
 
-concatenate-asks : allBelow 34 (λ i. asks ConcatenateRule dimension (rowAt i)) ≡ true
-unfolding allBelow rowAt ops ruleCode
+concatenate-asks : allBelow (length ops) (λ i. asks ConcatenateRule dimension (rowAt i)) ≡ true
+unfolding allBelow rowAt ops ruleCode attributes attributeNames placeIn firstWhere same
 concatenate-asks = refl
+
+compare-asks : allBelow (length ops) (λ i. asks CompareRule comparisonDirection (rowAt i)) ≡ true
+unfolding allBelow rowAt ops ruleCode attributes attributeNames placeIn firstWhere same
+compare-asks = refl
 
 -- what is found passes the test
 found-passes : (t : ℕ → Bool) (s : List ℕ) → firstWhere t s < length s → t (getD s (firstWhere t s) 0) ≡ true
@@ -122,7 +126,7 @@ stands-there text op k e =
     let p : t (getD (tab n (λ j. j)) f 0) ≡ true = found-passes t (tab n (λ j. j)) (rw (length-tab n (λ (j : ℕ). j)) l) in
     (l, eqb-true (attributeOf text op f) k (rw (getD-tab n (λ j. j) f 0 l) at p))
 
-module _ (text : List ℕ) (op : Parts) (i : ℕ) (l : i < 34) (fit : attributesFit text op (rowAt i) ≡ true) where
+module _ (text : List ℕ) (op : Parts) (i : ℕ) (l : i < length ops) (fit : attributesFit text op (rowAt i) ≡ true) where
   first-stands : (k : ℕ) → (0 < rowAt i .needed) × (rowAt i .a ≡ k) → stands text op k ≡ true
   unfolding neededAt
   first-stands k h = rw (h .1) at (attributes-needed text op (rowAt i) fit 0 (h .0))
@@ -133,24 +137,40 @@ module _ (text : List ℕ) (op : Parts) (i : ℕ) (l : i < 34) (fit : attributes
   one-of k e h = rw (h .1, first-stands k h, e)
 
   pub iota-number : rowAt i .rule ≡ IotaRule → numbersOf text op (rowAt i .a) .count ≡ 1
-  unfolding attributeKind attributes
+  unfolding attributeKind attributes attributeNames placeIn firstWhere same
   iota-number e = one-of iotaDimension refl (first-asked IotaRule iotaDimension iota-asks i l e)
 
   pub concatenate-number : rowAt i .rule ≡ ConcatenateRule → numbersOf text op (rowAt i .a) .count ≡ 1
-  unfolding attributeKind attributes
+  unfolding attributeKind attributes attributeNames placeIn firstWhere same
   concatenate-number e = one-of dimension refl (first-asked ConcatenateRule dimension concatenate-asks i l e)
+
+  -- the value of an attribute that stands is of the attribute's kind
+  kind-fits : (k : ℕ) → stands text op k ≡ true → kindFits text (nameOf text op k) (attributeKind k) ≡ true
+  unfolding attributeFits nameOf
+  kind-fits k e =
+      let s = stands-there text op k e in
+      let j = standsAt text op k in
+      let f = attributes-each text op (rowAt i) fit j (s .0) in
+      let a = attributeOf text op j in
+      let g : kindFits text (placeOf op attributeName j) (attributeKind k) ≡ true =
+      rw (s .1) at (both-true (ltb a noAttribute && ltb (slotIn (rowAt i) a) 3 && eqb (standsAt text op a) j) (kindFits text (placeOf op attributeName j) (attributeKind a)) f .1) in
+      rw e g
 
   -- the value of a constant is read whole
   value-fits : stands text op value ≡ true → denseFits text (nameOf text op value) ≡ true
-  unfolding attributeFits kindFits attributeKind attributes nameOf
+  unfolding kindFits attributeKind attributes attributeNames placeIn firstWhere same
   value-fits e =
-      let s = stands-there text op value e in
-      let j = standsAt text op value in
-      let f = attributes-each text op (rowAt i) fit j (s .0) in
-      let k = attributeOf text op j in
-      let g : kindFits text (placeOf op attributeName j) (attributeKind value) ≡ true =
-      rw (s .1) at (both-true (ltb k 15 && ltb (slotIn (rowAt i) k) 3 && eqb (standsAt text op k) j) (kindFits text (placeOf op attributeName j) (attributeKind k)) f .1) in
-      rw e (both-true (eqb (formAt text (placeOf op attributeName j)) Dense) (denseFits text (placeOf op attributeName j)) g .1)
+      let name = nameOf text op value in
+      both-true (eqb (formAt text name) Dense) (denseFits text name) (kind-fits value e) .1
+
+  -- a compare has its comparison_direction
+  pub compare-choice : rowAt i .rule ≡ CompareRule → choiceKind (choiceOf text op comparisonDirection) ≡ Direction
+  unfolding choiceOf kindFits choiceFits attributeKind attributes attributeNames placeIn firstWhere same
+  compare-choice e =
+      let s = first-stands comparisonDirection (first-asked CompareRule comparisonDirection compare-asks i l e) in
+      let name = nameOf text op comparisonDirection in
+      let c = choiceKind (choiceAt text name .choice) in
+      rw s (eqb-true c Direction (both-true (eqb (formAt text name) Direction) (eqb c Direction) (kind-fits comparisonDirection s) .1))
 
   -- a constant has its dense value, which is one of its type
   pub constant-reads : rowAt i .rule ≡ ConstantRule → (stands text op value ≡ true) × (denseFits text (nameOf text op value) ≡ true)

@@ -1,20 +1,24 @@
 -- An op that is typed and breaks no constraint: it is accepted by its class, and its operands are defined with the types that it writes.
 -- Assumes nothing.
-use mathlib.Core.Path.{_≡_, ap, _∙_}
-use mathlib.Core.Bool.{true, _&&_}
+use mathlib.Core.Path.{_≡_, refl, ap, _∙_}
+use mathlib.Core.Bool.{true, _&&_, false≢true}
 use mathlib.Core.List.{List}
 use Prim.Native.Nat.{ℕ, _<_}
 use native.Mathlib.Omega.{arith}
 use lib.Dec.{ltb, eqb}
-use lib.ListN.{getD}
+use lib.ListN.{length, getD}
 use borrow.Author.Tests.{ltb-true, lt-ltb}
+use Rattle.lists.specs.Lists.{pick}
 use Rattle.lists.proofs.TestLaw.{both-true}
 use Rattle.shape.specs.Dims.{dimsOf}
 use Rattle.ops.specs.declared.Kind.{Kind}
 use Rattle.ops.specs.declared.Kind.the-variants.{Constant, Iota, Elementwise, Pairwise, Quotient, Compare, Convert, Select, Clamp, Moved, Pad, Concatenate, DynamicSlice, Reduce}
 use Rattle.ops.specs.Typed.{Granted as NodeGranted}
-use Rattle.optable.specs.Table.{comparisonDirection, value}
+use Rattle.optable.specs.Table.{comparisonDirection, value, Direction, ops, rowAt, choiceKind, directionAt, mayReduce}
 use Rattle.optable.specs.declared.Row.{Row}
+use Rattle.optable.specs.declared.Class.the-variants as class
+use Rattle.optable.specs.declared.Reducer.{Reducer}
+use Rattle.optable.specs.declared.Reducer.the-variants.{Not, By}
 use Rattle.dimrules.specs.Count.{everywhere}
 use Rattle.dimrules.proofs.CountLaw.{holds-at}
 use Rattle.dimrules.specs.Types.{sameType, typeAt}
@@ -26,17 +30,18 @@ use Rattle.places.specs.Places.{opName, operandName, operandType, bodyOpen, cou
 use Rattle.values.specs.declared.Value.{Value}
 use Rattle.values.specs.Values.{noValue}
 use Rattle.attributes.specs.Attributes.{attributesFit, choiceOf, stands, denseFits, nameOf}
-use Rattle.bodies.specs.Bodies.{rowNamed, bodyRow}
+use Rattle.program.specs.Parts.{bodyAt}
+use Rattle.bodies.specs.Bodies.{rowNamed, bodyCounted, opCounted, innerOp, isReducer, onBoth, returnsIt, oneType, formed, bodyFits, bodyRow}
 use Rattle.operands.specs.Operands.{valueNamed, arityOf, operandTyped, operandsTyped}
 use Rattle.typing.specs.Typing.{rowOf, typesOf, operationOf, resultsAre, bodiesFit, inTable, typedOp}
 use Rattle.operands.proofs.OperandsLaw.{arity-few}
 use Rattle.typing.proofs.TypingLaw.{types-at}
-use Rattle.facts.specs.Facts.{ShapeRead, ruleOf, OneNumber, RowFor, AcceptedAs, nodeType, nodeFor}
+use Rattle.facts.specs.Facts.{ShapeRead, ruleOf, hasBody, kindBy, OneNumber, RowFor, AcceptedAs, nodeType, nodeFor}
 use Rattle.facts.proofs.AcceptedLaw.{row-for, accepted}
 use Rattle.facts.proofs.BridgeLaw.{alike-dims}
 use Rattle.facts.proofs.NodeLaw.{node-granted}
-use Rattle.nodes.specs.Nodes.{directionAt, reducerAt, kindOf, elementsOf}
-use Rattle.nodes.proofs.ReadLaw.{operation-shaped, iota-number, concatenate-number, constant-reads, constant-elements}
+use Rattle.nodes.specs.Nodes.{operationBy, reducerAt, kindOf, elementsOf}
+use Rattle.nodes.proofs.ReadLaw.{operation-shaped, iota-number, concatenate-number, compare-choice, constant-reads, constant-elements}
 
 -- two types of one meaning, by the lists of their dimensions
 pub same-node-type : (x y : TensorType) → ShapeRead (x .shape) → ShapeRead (y .shape) → sameType x y ≡ true → nodeType x ≡ nodeType y
@@ -54,6 +59,7 @@ pub record TypedParts (text : List ℕ) (op : Parts) (row : Row) (values : List 
   pub results : resultsAre 1 op ≡ true
   pub attributes : attributesFit text op row ≡ true
   pub taken : takenByTables row (operationOf text op row) ≡ true
+  pub bodies : bodiesFit text op row ≡ true
 
 pub typed-parts : (text : List ℕ) (op : Parts) (row : Row) (values : List Value) (n : ℕ) → typedOp text op row values n ≡ true → TypedParts text op row values n
 unfolding typedOp
@@ -66,7 +72,26 @@ typed-parts text op row values n e =
     let f = both-true (a && b && resultsAre 1 op) (attributesFit text op row) (g .0) in
     let d = both-true (a && b) (resultsAre 1 op) (f .0) in
     let c = both-true a b (d .0) in
-    record { table = c .0; operands = c .1; results = d .1; attributes = f .1; taken = g .1 }
+    record { table = c .0; operands = c .1; results = d .1; attributes = f .1; taken = g .1; bodies = h .1 }
+
+-- ---- bodies
+
+body-of : (r : Reducer) → mayReduce r ≡ true → r ≡ By (operationBy r)
+body-of Not e = absurd (false≢true e)
+body-of (By b) e = refl
+
+-- a body of the form is of an op that may be one
+fits-reducer : (text : List ℕ) (at : ℕ) → bodyFits text at ≡ true → isReducer (bodyRow text at) ≡ true
+unfolding bodyFits formed bodyRow
+fits-reducer text at e =
+    let body = bodyAt text at in
+    let op = innerOp text body in
+    let a = bodyCounted body && opCounted body op in
+    let r = isReducer (rowNamed text (placeOf body opName 0)) in
+    let h = both-true (a && r && onBoth text body && returnsIt text body) (oneType text body) e in
+    let g = both-true (a && r && onBoth text body) (returnsIt text body) (h .0) in
+    let f = both-true (a && r) (onBoth text body) (g .0) in
+    both-true a r (f .0) .1
 
 -- ---- operands
 
@@ -98,9 +123,9 @@ module _ (text : List ℕ) (op : Parts) (values : List Value) (n : ℕ) (typed :
   parts : TypedParts text op (rowOf text op) values n
   parts = typed-parts text op (rowOf text op) values n typed
 
-  inside : row < 34
+  inside : row < length ops
   unfolding inTable
-  inside = ltb-true row 34 (parts .table)
+  inside = ltb-true row (length ops) (parts .table)
 
   row-of-kind : RowFor (kindOf text op) (rowOf text op)
   unfolding kindOf rowOf
@@ -126,6 +151,24 @@ module _ (text : List ℕ) (op : Parts) (values : List Value) (n : ℕ) (typed :
   pub typed-constant : kindOf text op ≡ Constant → (stands text op value ≡ true) × (denseFits text (nameOf text op value) ≡ true)
   unfolding rowOf
   typed-constant e = constant-reads text op row inside (parts .attributes) (row-of-kind .rule ∙ ap ruleOf e)
+
+  -- a compare has its direction
+  pub typed-direction : rowOf text op .class ≡ class.Compare → choiceKind (choiceOf text op comparisonDirection) ≡ Direction
+  unfolding rowOf kindOf
+  typed-direction e =
+      compare-choice text op row inside (parts .attributes)
+      (row-of-kind .rule ∙ ap (λ c. ruleOf (kindBy (directionAt (choiceOf text op comparisonDirection)) (reducerAt (bodyRow text (placeOf op bodyOpen 0))) c)) e)
+
+  -- the body of a reduce is of an op that may be one
+  pub typed-reducer : rowOf text op .class ≡ class.Reduce
+      → rowAt (bodyRow text (placeOf op bodyOpen 0)) .reducer ≡ By (reducerAt (bodyRow text (placeOf op bodyOpen 0)))
+  unfolding kindOf bodiesFit isReducer reducerAt
+  typed-reducer e =
+      let at = placeOf op bodyOpen 0 in
+      let has : rowOf text op .body ≡ true =
+      row-of-kind .body ∙ ap (λ c. hasBody (kindBy (directionAt (choiceOf text op comparisonDirection)) (reducerAt (bodyRow text at)) c)) e in
+      let fit = both-true (eqb (countOf op bodyOpen) (pick (rowOf text op .body) 1 0)) (pick (rowOf text op .body) (bodyFits text at) true) (parts .bodies) .1 in
+      body-of (rowAt (bodyRow text at) .reducer) (fits-reducer text at (rw has at fit))
 
   module _ (held : brokenBy (rowOf text op .rule) (operationOf text op (rowOf text op)) ≡ 0) where
     pub typed-accepted : AcceptedAs (kindOf text op) (operationOf text op (rowOf text op))

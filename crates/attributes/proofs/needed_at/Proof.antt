@@ -1,7 +1,6 @@
 use Rattle.optable.proofs.TableLaw.{attributes-count}
 use Rattle.attributes.specs.Attributes.{neededAt}
-use borrow.Author.Needs.{needs}
-use mathlib.Core.Path.{sym}
+use mathlib.Core.Path.{refl, sym}
 use mathlib.Core.List.{[], _∷_}
 use lib.ListN.{List·getD-eq-default}
 use native.Mathlib.Omega.{arith}
@@ -10,15 +9,15 @@ use Rattle.attributes.proofs.needed_at.Tie as tie
 
 returns : tie.Need-returns
 unfolding neededAt
-returns c = search needs
+returns c = rw (c .if1 .taken) refl
 
 returns-2 : tie.Need-returns-2
 unfolding neededAt
-returns-2 c = search needs
+returns-2 c = rw (c .if2 .taken) refl
 
 returns-3 : tie.Need-returns-3
 unfolding neededAt
-returns-3 c = search needs
+returns-3 c = rw (c .if3 .taken) refl
 
 returns-4 : tie.Need-returns-4
 unfolding neededAt
