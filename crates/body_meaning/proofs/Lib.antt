@@ -1,4 +1,5 @@
 pub mod BodyValueLaw
+pub mod HeadLaw
 pub mod ArgumentLaw
 pub mod GatherLaw
 pub mod AcceptedBodyLaw
