@@ -3,3 +3,4 @@ pub mod HeadLaw
 pub mod ArgumentLaw
 pub mod GatherLaw
 pub mod AcceptedBodyLaw
+pub mod Examples
