@@ -8,3 +8,4 @@ pub mod TypedLaw
 pub mod OperandLaw
 pub mod UnreadLaw
 pub mod EarlierLaw
+pub mod ValuesWrittenLaw
