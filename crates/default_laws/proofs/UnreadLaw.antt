@@ -127,7 +127,7 @@ concatenate-same (suc n) types others d r f = ap firstBroken (some-given n types
 
 module _ (row : Row) (o q : Operation) (s : AsFar row o q) where
   named : (j : ℕ) → j < o .arity → typeAt (o .types) j ≡ typeAt (q .types) j
-  named = s .types
+  named j l = s .types j (omega arith)
 
   dynamic-slice-same : 0 < o .arity → 0 < row .needed → constraintsBy DynamicSlice o ≡ constraintsBy DynamicSlice q
   unfolding constraintsBy dynamicSliceConstraints
@@ -157,7 +157,7 @@ module _ (row : Row) (o q : Operation) (s : AsFar row o q) where
   by-rule Concatenate h g e =
       let n = s .arity in let a = s .a (omega arith) in let r = s .result in
       concatenate-same (o .arity) (o .types) (q .types) (num (o .a) 0) (o .result) named ∙ rw (n, a, r)
-  by-rule Constant h g e = let v = s .value (ltb-true _ 3 e) in let r = s .result in rw (v, r)
+  by-rule Constant h g e = let l = ltb-true (slotIn row value) 3 e in let v = s .value (omega arith) in let r = s .result in rw (v, r)
   by-rule Convert h g e = let x = named 0 (omega arith) in let r = s .result in rw (x, r)
   by-rule DynamicSlice h g e = ap firstBroken (dynamic-slice-same h g)
   by-rule Iota h g e = let a = s .a (omega arith) in let r = s .result in rw (a, r)
