@@ -1,0 +1,11 @@
+pub mod EverywhereLaw
+pub mod WrittenLaw
+pub mod AttributeLaw
+pub mod ValueLaw
+pub mod DenseLaw
+pub mod DenseTypeLaw
+pub mod TypedLaw
+pub mod OperandLaw
+pub mod UnreadLaw
+pub mod EarlierLaw
+pub mod ValuesWrittenLaw
