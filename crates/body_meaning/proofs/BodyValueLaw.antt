@@ -6,7 +6,6 @@ use mathlib.Core.List.{List, [], _∷_}
 use Prim.Native.Nat.{ℕ}
 use lib.Dec.{eqb}
 use borrow.Author.Tests.{eqb-true, eq-eqb}
-use Rattle.lists.specs.Lists.{pick}
 use Rattle.lists.proofs.TestLaw.{both-true}
 use Rattle.element.specs.Types.{Value}
 use Rattle.element.specs.declared.ElementType.{ElementType}
@@ -15,7 +14,6 @@ use Rattle.scalar.specs.Body.{bodyOf}
 use Rattle.scalar.specs.declared.Body.{Body}
 use Rattle.scalar.specs.declared.Body.the-variants.{Add, Multiply, Maximum, Minimum, And, Or, Xor}
 use Rattle.scalar.proofs.Reduce.{body-commutative}
-use Rattle.text.specs.Lex.{tokenAt}
 use Rattle.text.specs.Names.{nameBytes, sameBytes, sameName}
 use Rattle.text.proofs.NameLaw.{same-bytes, bytes-same}
 use Rattle.optable.specs.declared.Class.{Class}
@@ -25,7 +23,7 @@ use Rattle.optable.specs.Table.{rowAt, mayReduce}
 use Rattle.optable.proofs.ByNamesLaw.{binaryFor, reducer-class}
 use Rattle.program.specs.declared.Parts.{Parts}
 use Rattle.program.specs.Parts.{bodyAt}
-use Rattle.places.specs.Places.{opName, resultName, operandName, inputName, placeOf}
+use Rattle.places.specs.Places.{opName, operandName, inputName, placeOf}
 use Rattle.scope.specs.Scope.{nameAt, sameAt}
 use Rattle.bodies.specs.Bodies.{innerOp, bodyCounted, opCounted, rowNamed, isReducer, operandIs, onBoth, returnsIt, oneType, formed, bodyFits, bodyRow}
 use Rattle.bodies.proofs.BodiesLaw.{fits-reducer}

@@ -15,7 +15,7 @@ use Rattle.text.specs.Lex.{tokenAt}
 use Rattle.text.specs.Names.{wordIs}
 use Rattle.text.specs.declared.Token.{Token}
 use Rattle.types.specs.Tensors.{typeOf}
-use Rattle.grammar.specs.Symbols.{END, NUMBER, FUNC, DIALECT, TYPE, ARROW, OTHER, DENSE, LPAREN, RPAREN, LBRACE, RBRACE, LANGLE, RANGLE, LBRACKET, RBRACKET, COMMA, COLON, EQUALS, AttributeName, SingleNumber, DenseLiteral, DenseOpen, DenseClose, DenseType, langle, rangle, comma, colon, equals, dialect, array, dense, Value, Dense, DenseItems, MoreItems, Program, among, matches, leafKinds}
+use Rattle.grammar.specs.Symbols.{END, NUMBER, FUNC, DIALECT, TYPE, ARROW, OTHER, DENSE, LPAREN, RPAREN, LBRACE, RBRACE, LANGLE, RANGLE, LBRACKET, RBRACKET, COMMA, COLON, EQUALS, AttributeName, SingleNumber, ElementLiteral, DenseOpen, DenseClose, DenseType, langle, rangle, comma, colon, equals, dialect, array, dense, Value, Dense, DenseItems, MoreItems, Program, among, matches, leafKinds}
 use Rattle.grammar.specs.Leaves.{StandFor, allowed}
 use Rattle.grammar.proofs.TableTest.{true-T}
 use Rattle.grammar.proofs.Within.{member-passes}
@@ -102,7 +102,7 @@ no-T false t = refl
 
 -- the roles of a literal
 abbrev literals : List ℕ
-literals = DenseLiteral ∷ DenseOpen ∷ DenseClose ∷ comma ∷ Dense ∷ DenseItems ∷ MoreItems ∷ []
+literals = ElementLiteral ∷ DenseOpen ∷ DenseClose ∷ comma ∷ Dense ∷ DenseItems ∷ MoreItems ∷ []
 
 -- the roles with which another value begins
 abbrev others : List ℕ

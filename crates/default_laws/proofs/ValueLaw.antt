@@ -8,7 +8,7 @@ use native.Mathlib.Omega.{arith}
 use lib.Dec.{T, eqb, eqb→eq}
 use borrow.Author.Tests.{ne-eqb}
 use Rattle.lists.specs.Lists.{pick}
-use Rattle.grammar.specs.Symbols.{AttributeName, SingleNumber, DenseLiteral, DenseOpen, DenseClose, DenseType, langle, rangle, comma, colon, equals, dialect, array, dense, Program, Value, Dense, DenseItems, MoreItems, among}
+use Rattle.grammar.specs.Symbols.{AttributeName, SingleNumber, ElementLiteral, DenseOpen, DenseClose, DenseType, langle, rangle, comma, colon, equals, dialect, array, dense, Program, Value, Dense, DenseItems, MoreItems, among}
 use Rattle.grammar.specs.Grammar.{Production, grammar}
 use Rattle.grammar.specs.Derivation.{_∈_}
 use Rattle.grammar.specs.Leaves.{Yields, nothing, itself, right}
@@ -23,7 +23,7 @@ next (suc zero) r = pick (eqb r equals) 2 7
 next (suc (suc zero)) r = pick (eqb r dense) 3 (pick (among (SingleNumber ∷ array ∷ dialect ∷ Value ∷ []) r) 0 7)
 next (suc (suc (suc zero))) r = pick (eqb r langle) 4 7
 next (suc (suc (suc (suc zero)))) r =
-    pick (eqb r rangle) 5 (pick (among (DenseLiteral ∷ DenseOpen ∷ DenseClose ∷ comma ∷ Dense ∷ DenseItems ∷ MoreItems ∷ []) r) 4 7)
+    pick (eqb r rangle) 5 (pick (among (ElementLiteral ∷ DenseOpen ∷ DenseClose ∷ comma ∷ Dense ∷ DenseItems ∷ MoreItems ∷ []) r) 4 7)
 next (suc (suc (suc (suc (suc zero))))) r = pick (eqb r colon) 6 7
 next (suc (suc (suc (suc (suc (suc zero)))))) r = pick (eqb r DenseType) 0 7
 next (suc (suc (suc (suc (suc (suc (suc s))))))) r = 7
@@ -42,7 +42,7 @@ next-small (suc zero) r = pick-small (eqb r equals) 2 7 (omega arith) (omega ari
 next-small (suc (suc zero)) r = pick-small (eqb r dense) 3 _ (omega arith) (pick-small (among (SingleNumber ∷ array ∷ dialect ∷ Value ∷ []) r) 0 7 (omega arith) (omega arith))
 next-small (suc (suc (suc zero))) r = pick-small (eqb r langle) 4 7 (omega arith) (omega arith)
 next-small (suc (suc (suc (suc zero)))) r =
-    pick-small (eqb r rangle) 5 _ (omega arith) (pick-small (among (DenseLiteral ∷ DenseOpen ∷ DenseClose ∷ comma ∷ Dense ∷ DenseItems ∷ MoreItems ∷ []) r) 4 7 (omega arith) (omega arith))
+    pick-small (eqb r rangle) 5 _ (omega arith) (pick-small (among (ElementLiteral ∷ DenseOpen ∷ DenseClose ∷ comma ∷ Dense ∷ DenseItems ∷ MoreItems ∷ []) r) 4 7 (omega arith) (omega arith))
 next-small (suc (suc (suc (suc (suc zero))))) r = pick-small (eqb r colon) 6 7 (omega arith) (omega arith)
 next-small (suc (suc (suc (suc (suc (suc zero)))))) r = pick-small (eqb r DenseType) 0 7 (omega arith) (omega arith)
 next-small (suc (suc (suc (suc (suc (suc (suc s))))))) r = omega arith

@@ -29,7 +29,7 @@ shortest =
     (2 ∷ []) ∷  -- ListNumber
     (1 ∷ []) ∷  -- ChoiceKind
     (1 ∷ []) ∷  -- Choice
-    (2 ∷ []) ∷  -- DenseLiteral
+    (2 ∷ []) ∷  -- ElementLiteral
     (26 ∷ []) ∷  -- DenseOpen
     (27 ∷ []) ∷  -- DenseClose
     (7 ∷ []) ∷  -- DenseType
@@ -111,7 +111,7 @@ follows =
     (25 ∷ 28 ∷ []) ∷  -- ListNumber
     (1 ∷ 14 ∷ 15 ∷ 16 ∷ 17 ∷ 18 ∷ 19 ∷ []) ∷  -- ChoiceKind
     (25 ∷ []) ∷  -- Choice
-    (25 ∷ 27 ∷ 28 ∷ []) ∷  -- DenseLiteral
+    (25 ∷ 27 ∷ 28 ∷ []) ∷  -- ElementLiteral
     (2 ∷ 16 ∷ 26 ∷ 27 ∷ []) ∷  -- DenseOpen
     (25 ∷ 27 ∷ 28 ∷ []) ∷  -- DenseClose
     (23 ∷ 28 ∷ []) ∷  -- DenseType

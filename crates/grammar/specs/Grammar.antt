@@ -2,7 +2,7 @@
 -- tools/tables.py prints the code's tables from this file and Symbols.antt. Assumes nothing.
 use Prim.Native.Nat.{ℕ}
 use mathlib.Core.List.{List, [], _∷_}
-use Rattle.grammar.specs.Symbols.{End, FunctionName, InputName, InputType, OutputType, ResultName, OpName, FuncReturn, OperandName, OperandType, ResultType, BodyOpen, BodyLabel, ArgumentName, ArgumentType, BodyOpName, BodyReturn, BodyClose, AttributeName, SingleNumber, ListNumber, ChoiceKind, Choice, DenseLiteral, DenseOpen, DenseClose, DenseType, func, lparen, rparen, lbrace, rbrace, langle, rangle, comma, colon, equals, arrow, dialect, array, dense, i64, Program, Inputs, MoreInputs, Outputs, MoreOutputs, Ops, NamedOps, MoreResults, OpRest, Operands, MoreOperands, Middle, BodiesAfter, AttributesAfter, Body, MoreBodies, Arguments, MoreArguments, BodyOps, NamedBodyOps, OperandTypes, MoreOperandTypes, ResultTypes, ResultTypeList, MoreResultTypes, Attributes, MoreAttributes, Value, Numbers, MoreNumbers, Dense, DenseItems, MoreItems, Op, NamedOp}
+use Rattle.grammar.specs.Symbols.{End, FunctionName, InputName, InputType, OutputType, ResultName, OpName, FuncReturn, OperandName, OperandType, ResultType, BodyOpen, BodyLabel, ArgumentName, ArgumentType, BodyOpName, BodyReturn, BodyClose, AttributeName, SingleNumber, ListNumber, ChoiceKind, Choice, ElementLiteral, DenseOpen, DenseClose, DenseType, func, lparen, rparen, lbrace, rbrace, langle, rangle, comma, colon, equals, arrow, dialect, array, dense, i64, Program, Inputs, MoreInputs, Outputs, MoreOutputs, Ops, NamedOps, MoreResults, OpRest, Operands, MoreOperands, Middle, BodiesAfter, AttributesAfter, Body, MoreBodies, Arguments, MoreArguments, BodyOps, NamedBodyOps, OperandTypes, MoreOperandTypes, ResultTypes, ResultTypeList, MoreResultTypes, Attributes, MoreAttributes, Value, Numbers, MoreNumbers, Dense, DenseItems, MoreItems, Op, NamedOp}
 
 pub record Production : Type 0 where
   pub left : ℕ
@@ -93,9 +93,9 @@ grammar =
     (MoreNumbers ⟶ comma ∷ ListNumber ∷ MoreNumbers ∷ []) ∷
     (MoreNumbers ⟶ []) ∷
     -- TensorLiteral ::= 'dense' '<' (DenseLiteral | ElementLiteral) '>': "one literal for every element, or lists nested one level per dimension"
-    (Dense ⟶ DenseLiteral ∷ []) ∷
+    (Dense ⟶ ElementLiteral ∷ []) ∷
     (Dense ⟶ DenseOpen ∷ DenseItems ∷ DenseClose ∷ []) ∷
-    (DenseItems ⟶ DenseLiteral ∷ MoreItems ∷ []) ∷
+    (DenseItems ⟶ ElementLiteral ∷ MoreItems ∷ []) ∷
     (DenseItems ⟶ DenseOpen ∷ DenseItems ∷ DenseClose ∷ MoreItems ∷ []) ∷
     (DenseItems ⟶ []) ∷
     (MoreItems ⟶ comma ∷ Dense ∷ MoreItems ∷ []) ∷

@@ -202,8 +202,8 @@ ChoiceKind = 22
 abbrev pub Choice : ℕ
 Choice = 23
 
-abbrev pub DenseLiteral : ℕ
-DenseLiteral = 24
+abbrev pub ElementLiteral : ℕ
+ElementLiteral = 24
 
 abbrev pub DenseOpen : ℕ
 DenseOpen = 25
@@ -295,7 +295,7 @@ leafKinds =
     (NUMBER ∷ []) ∷  -- ListNumber
     words ∷  -- ChoiceKind
     words ∷  -- Choice
-    (NUMBER ∷ BOOLEAN ∷ []) ∷  -- DenseLiteral
+    (NUMBER ∷ BOOLEAN ∷ []) ∷  -- ElementLiteral
     (LBRACKET ∷ []) ∷  -- DenseOpen
     (RBRACKET ∷ []) ∷  -- DenseClose
     (TYPE ∷ []) ∷  -- DenseType

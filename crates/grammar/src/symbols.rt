@@ -119,7 +119,7 @@ impl Role {
 
     pub const CHOICE: u8 = 23;
 
-    pub const DENSE_LITERAL: u8 = 24;
+    pub const ELEMENT_LITERAL: u8 = 24;
 
     pub const DENSE_OPEN: u8 = 25;
 

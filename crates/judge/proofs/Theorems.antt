@@ -9,9 +9,7 @@ use lib.Dec.{eqb, ltb}
 use lib.ListN.{length}
 use borrow.Author.Tests.{lt-ltb, eqb-true, eqb-false}
 use Rattle.lists.specs.Lists.{pick}
-use Rattle.syntax.specs.declared.Fault.{Fault}
-use Rattle.syntax.specs.declared.Fault.the-variants.{Nothing, At}
-use Rattle.syntax.specs.Readings.{Reading, readings, faultIn, grammarFault}
+use Rattle.syntax.specs.Readings.{Reading, readings, Fault, noFault, faultAt, faultIn, grammarFault, faultNumbers}
 use Rattle.syntax.specs.Sentences.{InGrammar, FailsAt}
 use Rattle.syntax.proofs.Theorems.{sentence, fault-exact, no-fault}
 use Rattle.judge.specs.declared.Refusal.{Refusal}
@@ -22,15 +20,15 @@ use Rattle.judge.specs.Judge.{refuse, accepted, unknown, refusalAt, earl
 
 -- a refusal of the readings, by number: 2 is the grammar's fault, 0 is none
 abbrev Agrees : Refusal → Fault → Type 0
-Agrees r f = (r .number ≡ 0 → f ≡ Nothing) × (r .number ≡ 2 → f ≡ At (r .a))
+Agrees r f = (r .number ≡ 0 → f ≡ noFault) × (r .number ≡ 2 → (f ≡ faultAt (r .a)) × (r .b ≡ 0))
 
 -- the refusal of one token whose first byte is a: whether it fits, whether its name is unknown, whether it passes no size, or size n
 abbrev judged : Bool → Bool → Bool → ℕ → ℕ → Refusal
 judged fits foreign small a n = pick (not fits) (refuse 2 a 0) (pick foreign (refuse 3 a 0) (pick small accepted (refuse 4 a n)))
 
 one-token : (fits foreign small : Bool) (a n : ℕ) (later : Refusal) (f : Fault) → Agrees later f →
-    Agrees (pick (eqb (judged fits foreign small a n .number) 0) later (judged fits foreign small a n)) (pick fits f (At a))
-one-token false foreign small a n later f h = ((λ e. absurd (omega arith)), (λ e. refl))
+    Agrees (pick (eqb (judged fits foreign small a n .number) 0) later (judged fits foreign small a n)) (pick fits f (faultAt a))
+one-token false foreign small a n later f h = ((λ e. absurd (omega arith)), (λ e. (refl, refl)))
 one-token true true small a n later f h = ((λ e. absurd (omega arith)), (λ e. absurd (omega arith)))
 one-token true false true a n later f h = h
 one-token true false false a n later f h = ((λ e. absurd (omega arith)), (λ e. absurd (omega arith)))
@@ -60,13 +58,20 @@ accepted-sentence text e = sentence text (whole text (λ q. omega arith) .0 e)
 
 -- 2: A is the first byte of the first token at which the grammar fails
 pub fault-fails : (text : List ℕ) → textRefusal text .number ≡ 2 → FailsAt text (textRefusal text .a)
-fault-fails text e = fault-exact text _ (whole text (λ q. omega arith) .1 e)
+fault-fails text e = fault-exact text _ (whole text (λ q. omega arith) .1 e .0)
+
+-- 2: the answer's three numbers are those of the text's fault
+pub fault-numbers : (text : List ℕ) → textRefusal text .number ≡ 2 →
+    (textRefusal text .number, textRefusal text .a, textRefusal text .b) ≡ faultNumbers (grammarFault text)
+fault-numbers text e =
+    let q = whole text (λ z. omega arith) .1 e in
+    rw (q .0, q .1, e)
 
 -- a text of the grammar has no refusal 2
 pub never-fault : (text : List ℕ) → InGrammar text → textRefusal text .number ≡ 2 → ⊥
 never-fault text d e =
     let p = no-fault text d in
-    let q = whole text (λ z. omega arith) .1 e in
+    let q = whole text (λ z. omega arith) .1 e .0 in
     let z : _≡_ {A = ℕ} 0 1 = cc in omega arith
 
 -- 1: every text that is too long

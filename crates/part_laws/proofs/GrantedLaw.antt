@@ -17,8 +17,7 @@ use Rattle.grammar.specs.Derivation.{_∈_}
 use Rattle.grammar.specs.Leaves.{Yields, Parsed}
 use Rattle.grammar.proofs.TableTest.{implies, implied, upTo, up-to}
 use Rattle.grammar.proofs.Within.{allPass, member-passes}
-use Rattle.syntax.specs.declared.Fault.the-variants.{Nothing}
-use Rattle.syntax.specs.Readings.{Reading, reading, readingsOf, readings, grammarFault}
+use Rattle.syntax.specs.Readings.{Reading, reading, readingsOf, readings, noFault, grammarFault}
 use Rattle.syntax.specs.Roles.{rolesOf}
 use Rattle.syntax.specs.OpsAlone.{Naming, unnamed, results, OpParts, OpAlone, Outline}
 use Rattle.judge.specs.declared.tally.Tally.{Tally}
@@ -177,7 +176,7 @@ module _ (text : List ℕ) (e : textRefusal text .number ≡ 0) where
   unfolding partsAt partsOf
   parts-there symbol level at = rw (le-ltb 65536 (length text) (few-bytes text e))
 
-  no-grammar-fault : grammarFault text ≡ Nothing
+  no-grammar-fault : grammarFault text ≡ noFault
   no-grammar-fault = no-fault text (accepted-sentence text e)
 
   -- the part of bodies holds bodies whose types stand

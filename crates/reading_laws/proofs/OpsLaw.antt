@@ -12,8 +12,7 @@ use Rattle.lists.specs.Lists.{All, concat}
 use Rattle.lists.proofs.AllLaw.{all-get}
 use Rattle.text.specs.declared.Token.{Token}
 use Rattle.grammar.specs.Symbols.{OpName, FuncReturn, Op}
-use Rattle.syntax.specs.declared.Fault.the-variants.{Nothing}
-use Rattle.syntax.specs.Readings.{Reading, reading, readingsOf, readings, grammarFault}
+use Rattle.syntax.specs.Readings.{Reading, reading, readingsOf, readings, noFault, grammarFault}
 use Rattle.syntax.specs.OpsAlone.{OpAlone, Outline}
 use Rattle.syntax.proofs.Theorems.{no-fault}
 use Rattle.syntax.proofs.OutlineLaw.{outline}

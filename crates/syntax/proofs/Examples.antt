@@ -17,10 +17,8 @@ use Rattle.grammar.specs.Grammar.{grammar}
 use Rattle.grammar.proofs.TableTest.{both}
 use Rattle.grammar.proofs.TableRight.{sameList}
 use Rattle.grammar.specs.Machine.{cell, step}
-use Rattle.syntax.specs.declared.Fault.{Fault}
-use Rattle.syntax.specs.declared.Fault.the-variants.{Nothing, At, Long}
 use Rattle.syntax.specs.Kinds.{markKind, nameKind, wordKind, quotedKind, tokenKind, kindOf}
-use Rattle.syntax.specs.Readings.{Reading, readingsFrom, readingsOf, readings, faultIn, grammarFault}
+use Rattle.syntax.specs.Readings.{Reading, readingsFrom, readingsOf, readings, Fault, noFault, faultAt, faultIn, grammarFault}
 
 record Case : Type 0 where
   text : String
@@ -32,41 +30,40 @@ case s f = record { text = s; fault = f }
 unfoldable cases : List Case
 cases =
     -- 01, Table of examples: the evaluating program's text
-    case "func.func @main() -> tensor<1xui16> {\n  %t = \"stablehlo.constant\"() {value = dense<[1650, 1675, 1700, 1725]> : tensor<4xui16>} : () -> tensor<4xui16>\n  %i = \"stablehlo.constant\"() {value = dense<255> : tensor<ui8>} : () -> tensor<ui8>\n  %r = \"stablehlo.dynamic_slice\"(%t, %i) {slice_sizes = array<i64: 1>} : (tensor<4xui16>, tensor<ui8>) -> tensor<1xui16>\n  \"func.return\"(%r) : (tensor<1xui16>) -> ()\n}\n" Nothing ∷
+    case "func.func @main() -> tensor<1xui16> {\n  %t = \"stablehlo.constant\"() {value = dense<[1650, 1675, 1700, 1725]> : tensor<4xui16>} : () -> tensor<4xui16>\n  %i = \"stablehlo.constant\"() {value = dense<255> : tensor<ui8>} : () -> tensor<ui8>\n  %r = \"stablehlo.dynamic_slice\"(%t, %i) {slice_sizes = array<i64: 1>} : (tensor<4xui16>, tensor<ui8>) -> tensor<1xui16>\n  \"func.return\"(%r) : (tensor<1xui16>) -> ()\n}\n" noFault ∷
     -- 000, Operations: a body after attributes in `<{ }>`
-    case "func.func @m() -> tensor<i8> {\n%r = \"stablehlo.reduce\"(%x, %s) <{dimensions = array<i64: 0>}> ({\n^bb0(%a: tensor<i8>, %b: tensor<i8>):\n  %c = \"stablehlo.add\"(%a, %b) : (tensor<i8>, tensor<i8>) -> tensor<i8>\n  \"stablehlo.return\"(%c) : (tensor<i8>) -> ()\n}) : (tensor<4xi8>, tensor<i8>) -> tensor<i8>\n\"func.return\"(%r) : (tensor<i8>) -> () }" Nothing ∷
+    case "func.func @m() -> tensor<i8> {\n%r = \"stablehlo.reduce\"(%x, %s) <{dimensions = array<i64: 0>}> ({\n^bb0(%a: tensor<i8>, %b: tensor<i8>):\n  %c = \"stablehlo.add\"(%a, %b) : (tensor<i8>, tensor<i8>) -> tensor<i8>\n  \"stablehlo.return\"(%c) : (tensor<i8>) -> ()\n}) : (tensor<4xi8>, tensor<i8>) -> tensor<i8>\n\"func.return\"(%r) : (tensor<i8>) -> () }" noFault ∷
     -- OP-12: tokens may touch
-    case "func.func@m(){\"func.return\"():()->()}" Nothing ∷
+    case "func.func@m(){\"func.return\"():()->()}" noFault ∷
     -- OP-17: an empty text: A is its length
-    case "" (At 0) ∷
+    case "" (faultAt 0) ∷
     -- at the end A is the length, white space and a comment before it
-    case "func.func @m() { // no op\n  " (At 28) ∷
+    case "func.func @m() { // no op\n  " (faultAt 28) ∷
     -- OP-00c: the grammar's fault alone
-    case "func.func @m(%a: tensor<4xf32>) oops" (At 32) ∷
+    case "func.func @m(%a: tensor<4xf32>) oops" (faultAt 32) ∷
     -- OP-14
-    case "func.func @m() -> (tensor<i8>) {" (At 18) ∷
+    case "func.func @m() -> (tensor<i8>) {" (faultAt 18) ∷
     -- OP-20b
-    case "module {" (At 0) ∷
+    case "module {" (faultAt 0) ∷
     -- OP-10: `tensor` and a space is a word
-    case "func.func @m(%a: tensor <4xi32>)" (At 17) ∷
+    case "func.func @m(%a: tensor <4xi32>)" (faultAt 17) ∷
     -- OP-22: `token` and `tuple` are types, and what follows `tuple` is read as after a type
-    case "func.func @m(%a: token, %b: tuple<" (At 33) ∷
+    case "func.func @m(%a: token, %b: tuple<" (faultAt 33) ∷
     -- OP-22: any other word
-    case "func.func @m(%a: i32)" (At 17) ∷
+    case "func.func @m(%a: i32)" (faultAt 17) ∷
     -- OP-05: `0x10` is the tokens `0` and `x10`
-    case "func.func @m() {\"a.b\"() {value = dense<0x10>" (At 40) ∷
+    case "func.func @m() {\"a.b\"() {value = dense<0x10>" (faultAt 40) ∷
     -- OP-34
-    case "func.func @m() {\"a.b\"() {value = dense<>" (At 39) ∷
+    case "func.func @m() {\"a.b\"() {value = dense<>" (faultAt 39) ∷
     -- OP-41
-    case "func.func @m() {%x = \"stablehlo.return\"" (At 21) ∷
+    case "func.func @m() {%x = \"stablehlo.return\"" (faultAt 21) ∷
     -- OP-42c
-    case "func.func @m() {\"a.b\"() {a = array<i64:>" (At 39) ∷
+    case "func.func @m() {\"a.b\"() {a = array<i64:>" (faultAt 39) ∷
     []
 
 abbrev number : Fault → ℕ
-number Nothing = 0
-number Long = 1
-number (At a) = a + 2
+number noFault = 0
+number (faultAt a) = a + 1
 
 abbrev right : List Case → Bool
 right [] = true

@@ -4,14 +4,11 @@ use Prim.Native.Nat.{ℕ, zero, suc, _+_}
 use mathlib.Core.List.{List, [], _∷_}
 use mathlib.Core.Bool.{Bool, true, false}
 use lib.ListN.{length}
-use lib.Dec.{ltb}
 use Rattle.lists.specs.Lists.{pick}
 use Rattle.text.specs.Lex.{tokenAt}
 use Rattle.text.specs.declared.Token.{Token}
 use Rattle.grammar.specs.Symbols.{Program}
 use Rattle.grammar.specs.Machine.{Cell, fails, skips, takes, step}
-use Rattle.syntax.specs.declared.Fault.{Fault}
-use Rattle.syntax.specs.declared.Fault.the-variants.{Nothing, At, Long}
 use Rattle.syntax.specs.Kinds.{kindOf}
 
 -- a token, whether the grammar takes it, and its role (0 where it does not)
@@ -45,15 +42,21 @@ readingsOf s text at = readingsFrom (length text + 1) (s ∷ []) text at
 unfoldable pub readings : List ℕ → List Reading
 readings text = readingsOf Program text 0
 
+-- where the grammar fails: nowhere, or at the token that starts at a byte
+pub data Fault : Type 0 where
+  noFault : Fault
+  faultAt : ℕ → Fault
+
 -- "start of the first token at which the grammar, names left open, fails; the length at the end"
 unfoldable pub faultIn : List Reading → Fault
-faultIn [] = Nothing
-faultIn (x ∷ xs) = pick (x .fits) (faultIn xs) (At (x .token .start))
+faultIn [] = noFault
+faultIn (x ∷ xs) = pick (x .fits) (faultIn xs) (faultAt (x .token .start))
 
--- refusal 2 of a text that is not too long
+-- that of a text of any length
 unfoldable pub grammarFault : List ℕ → Fault
 grammarFault text = faultIn (readings text)
 
--- "Text up to 65,536 bytes": of a longer text nothing is said here, refusal 1 answers it
-unfoldable pub firstFault : List ℕ → Fault
-firstFault text = pick (ltb 65536 (length text)) Long (grammarFault text)
+-- 01's numbers of it, where the text is not too long and has no refusal before it: `0 0 0`, or `2 A 0`
+abbrev pub faultNumbers : Fault → ℕ × ℕ × ℕ
+faultNumbers noFault = (0, 0, 0)
+faultNumbers (faultAt a) = (2, a, 0)

@@ -1,8 +1,6 @@
-// A text's tokens with their roles in the grammar, and the first token at which the grammar fails.
+// A text's tokens with their kinds and their roles in the grammar.
 use grammar::advance;
-use grammar::start;
 use grammar::symbols::Kind;
-use grammar::symbols::Symbol;
 use limits::Limits;
 use scan::bytes::byte_at;
 use text::Token;
@@ -14,7 +12,6 @@ ghost use lib.ListN.{length};
 ghost use Rattle.scan.specs.Ascii.{ascii};
 ghost use Rattle.text.specs.Names.{wordIs};
 ghost use Rattle.syntax.specs.Kinds.{markKind, nameKind, wordKind, quotedKind, kindOf};
-ghost use Rattle.syntax.specs.Readings.{readingsOf, faultIn, firstFault};
 ghost use Rattle.syntax.specs.Turns.{Turned};
 
 // For each token kind of the crate text 48 more than its kind here: `9` for a mark that the grammar has nowhere.
@@ -185,45 +182,4 @@ pub struct Stack {}
 
 impl Stack {
     pub const SIZE: usize = 10 * (Limits::TEXT + 2);
-}
-
-// No fault; the first byte of the first token at which the grammar fails; or a text of more than 65,536 bytes.
-pub enum Fault {
-    Nothing,
-    At(usize),
-    Long,
-}
-
-// The first fault of what the symbol derives, read from byte at on.
-pub fn fault_of(symbol: u8, text: &[u8], at: usize, stack: &mut [u8]) -> Fault
-    requires { ⌜ (length (now text) ≤ 65536) × (length (now stack) ≡ 655380) ⌝ }
-    ensures { λ r. ⌜ r ≡ faultIn (readingsOf symbol (now (text .entry)) at) ⌝ }
-{
-    let mut top = start(stack, symbol);
-    let mut place = at;
-    let mut left = text.len() + 1;
-    while left > 0 {
-        if top == stack.len() {
-            return Fault::Nothing;
-        }
-        let r = read_token(text, place, stack, top);
-        if !r.fits {
-            return Fault::At(r.token.start);
-        }
-        top = r.top;
-        place = r.token.end;
-        left -= 1;
-    }
-    Fault::Nothing
-}
-
-// The start of the first token at which the grammar fails.
-pub fn first_fault(text: &[u8]) -> Fault
-    ensures { λ r. ⌜ r ≡ firstFault (now (text .entry)) ⌝ }
-{
-    if text.len() > Limits::TEXT {
-        return Fault::Long;
-    }
-    let mut stack: [u8; Stack::SIZE] = [0; Stack::SIZE];
-    fault_of(Symbol::PROGRAM, text, 0, &mut stack)
 }

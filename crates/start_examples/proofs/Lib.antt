@@ -1,0 +1,3 @@
+pub mod IdentityTest
+pub mod Computing
+pub mod SignedLaw
