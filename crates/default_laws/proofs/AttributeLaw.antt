@@ -4,13 +4,13 @@
 use mathlib.Core.Path.{_≡_, refl, sym, ap, _∙_}
 use mathlib.Core.List.{List, [], _∷_}
 use mathlib.Core.Bool.{Bool, true, false, _&&_}
-use Prim.Native.Nat.{ℕ, zero, suc, _+_, _<_, _≤_}
+use Prim.Native.Nat.{ℕ, suc, _<_, _≤_}
 use native.Mathlib.Nat.{not-suc-le-zero, le-of-suc-le-suc}
 use native.Mathlib.Decide.{decLt}
 use native.Mathlib.Omega.{arith}
 use lib.Dec.{ltb, eqb}
 use lib.ListN.{length, getD}
-use borrow.Author.Tests.{ltb-true, eqb-true, eq-eqb, lt-ltb}
+use borrow.Author.Tests.{ltb-true, eqb-true, lt-ltb}
 use Rattle.lists.specs.Lists.{pick, tab, firstWhere}
 use Rattle.lists.proofs.TestLaw.{both-true}
 use Rattle.lists.proofs.TabLaw.{length-tab, getD-tab}

@@ -2,29 +2,27 @@
 -- is written there.
 -- Assumes nothing.
 use mathlib.Core.Path.{_≡_, refl, sym, ap, subst, _∙_}
-use mathlib.Core.List.{List, [], _∷_, _++_, map}
+use mathlib.Core.List.{List, [], _∷_}
 use mathlib.Core.Bool.{Bool, true, false, not}
 use Prim.Native.Nat.{ℕ, zero, suc, _+_, _<_, _≤_}
 use native.Mathlib.Omega.{arith}
 use lib.Dec.{T, eqb}
-use lib.ListN.{length, getD}
-use borrow.Author.Needs.{needs}
-use borrow.Author.Tests.{eqb-true, eqb-false, eq-eqb, ne-eqb, not-false}
-use Rattle.lists.specs.Lists.{pick, All, concat}
+use lib.ListN.{length}
+use borrow.Author.Tests.{eqb-true, eqb-false, not-false}
+use Rattle.lists.specs.Lists.{pick, All}
 use Rattle.scan.specs.Ascii.{ascii}
-use Rattle.scan.specs.Bytes.{among as isOne}
 use Rattle.text.specs.Lex.{tokenAt}
 use Rattle.text.specs.Names.{wordIs}
 use Rattle.text.specs.declared.Token.{Token}
 use Rattle.types.specs.Tensors.{typeOf}
 use Rattle.grammar.specs.Symbols.{END, NUMBER, FUNC, DIALECT, TYPE, ARROW, OTHER, DENSE, LPAREN, RPAREN, LBRACE, RBRACE, LANGLE, RANGLE, LBRACKET, RBRACKET, COMMA, COLON, EQUALS, AttributeName, SingleNumber, ElementLiteral, DenseOpen, DenseClose, DenseType, langle, rangle, comma, colon, equals, dialect, array, dense, Value, Dense, DenseItems, MoreItems, Program, among, matches, leafKinds}
 use Rattle.grammar.specs.Leaves.{StandFor, allowed}
-use Rattle.grammar.proofs.TableTest.{true-T, T-true}
+use Rattle.grammar.proofs.TableTest.{true-T}
 use Rattle.grammar.proofs.Within.{member-passes}
 use Rattle.grammar.proofs.Leaves.{parsed}
 use Rattle.syntax.specs.Kinds.{markKind, nameKind, wordKind, quotedKind, tokenKind, kindOf}
 use Rattle.syntax.specs.Tokens.{kindsOf}
-use Rattle.syntax.specs.Readings.{Reading, reading, readingsOf, readings, grammarFault}
+use Rattle.syntax.specs.Readings.{Reading, readingsOf, readings}
 use Rattle.syntax.specs.Roles.{rolesOf, tokensOf}
 use Rattle.syntax.proofs.KindLaw.{is-end}
 use Rattle.syntax.proofs.Labelling.{Reads, stop, read, whole, reads-gives}

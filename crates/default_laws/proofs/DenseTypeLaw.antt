@@ -1,9 +1,9 @@
 -- The type after the dense value of an op's attribute is the one that its token says.
 -- Assumes nothing.
-use mathlib.Core.Path.{_≡_, refl, sym, ap, subst, _∙_}
+use mathlib.Core.Path.{_≡_, refl, sym, subst}
 use mathlib.Core.List.{List, [], _∷_, _++_, map}
-use mathlib.Core.Bool.{Bool, true, _&&_}
-use Prim.Native.Nat.{ℕ, zero, suc, _+_, _<_, _≤_}
+use mathlib.Core.Bool.{Bool, true}
+use Prim.Native.Nat.{ℕ, _+_, _<_}
 use native.Mathlib.Omega.{arith}
 use lib.Dec.{T, eqb, eqb→eq}
 use lib.ListN.{length, getD}
@@ -12,7 +12,7 @@ use Rattle.lists.specs.Lists.{All, concat}
 use Rattle.lists.proofs.AllLaw.{all-get}
 use Rattle.grammar.specs.Symbols.{AttributeName, OpName, Op, leafCount}
 use Rattle.grammar.proofs.TableTest.{implies, implied, up-to}
-use Rattle.syntax.specs.Readings.{Reading, readingsOf, readings}
+use Rattle.syntax.specs.Readings.{Reading, readingsOf}
 use Rattle.syntax.specs.Roles.{rolesOf}
 use Rattle.syntax.specs.OpsAlone.{OpAlone, Outline}
 use Rattle.judge.specs.Judge.{textRefusal}
@@ -27,7 +27,6 @@ use Rattle.optable.specs.Table.{Dense, attributeKind}
 use Rattle.optable.specs.declared.Row.{Row}
 use Rattle.attribute.specs.Attribute.{formAt, denseAt}
 use Rattle.attributes.specs.Attributes.{attributesOf, standsAt, stands, denseFits, kindFits, attributesFit, nameOf, denseType}
-use Rattle.part_laws.specs.Granted.{TypeStands}
 use Rattle.part_laws.proofs.StandLaw.{type-said}
 use Rattle.lists.proofs.TestLaw.{both-true}
 use Rattle.default_laws.specs.Written.{said}

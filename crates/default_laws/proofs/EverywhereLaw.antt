@@ -3,13 +3,13 @@
 use mathlib.Core.Path.{_≡_, refl, ap}
 use mathlib.Core.List.{List, [], _∷_}
 use mathlib.Core.Bool.{Bool, not}
-use Prim.Native.Nat.{ℕ, zero, suc, _+_, _<_}
+use Prim.Native.Nat.{ℕ, _+_, _<_}
 use native.Mathlib.Omega.{arith}
 use lib.Dec.{eqb}
-use Rattle.lists.specs.Lists.{pick, tab, firstWhere, All}
+use Rattle.lists.specs.Lists.{tab, firstWhere, All}
 use Rattle.lists.proofs.AllLaw.{all-tab}
 use Rattle.dimrules.specs.Count.{firstFailing, everywhere}
-use Rattle.dimrules.specs.Types.{typeAt, typeTest, operandTest, allTypes}
+use Rattle.dimrules.specs.Types.{typeAt, operandTest, allTypes}
 use Rattle.dimrules.specs.declared.TensorType.{TensorType}
 use Rattle.dimrules.specs.declared.TypeTest.{TypeTest}
 

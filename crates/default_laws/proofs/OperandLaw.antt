@@ -1,12 +1,12 @@
 -- What stands in typing for an operand without a definition, and for more than eight operands: an op whose names are not refused does not meet it
 -- (01: "op by op names (5, 6), 7, 8").
 -- Assumes nothing.
-use mathlib.Core.Path.{_≡_, refl, sym, ap, _∙_}
+use mathlib.Core.Path.{_≡_, ap, _∙_}
 use mathlib.Core.List.{List}
-use mathlib.Core.Bool.{Bool, true, false, _&&_}
-use Prim.Native.Nat.{ℕ, _+_, _<_, _≤_}
+use mathlib.Core.Bool.{_&&_}
+use Prim.Native.Nat.{ℕ, _+_, _<_}
 use native.Mathlib.Omega.{arith}
-use lib.Dec.{ltb, eqb}
+use lib.Dec.{eqb}
 use lib.ListN.{getD}
 use Rattle.judge.specs.Judge.{textRefusal}
 use Rattle.dimrules.specs.Count.{everywhere}
@@ -18,10 +18,10 @@ use Rattle.program.specs.Program.{programOf}
 use Rattle.places.specs.Places.{operandName, operandType, countOf, placeOf, typeOfPart}
 use Rattle.values.specs.declared.Value.{Value}
 use Rattle.values.specs.declared.Values.{Values}
-use Rattle.values.specs.Values.{noValue, inputsOf, opsOf, valueAt, valuesIn}
+use Rattle.values.specs.Values.{noValue, valueAt, valuesIn}
 use Rattle.values.proofs.ValuesLaw.{value-stands}
 use Rattle.known.specs.Known.{namesFault}
-use Rattle.operands.specs.Operands.{valueNamed, arityOf, operandTyped, operandsTyped}
+use Rattle.operands.specs.Operands.{valueNamed, operandTyped, operandsTyped}
 use Rattle.scope_laws.proofs.PlaceBoundLaw.{names-within}
 use Rattle.scope_laws.proofs.Theorems.{operand-by-type, text-operand-defined}
 use Rattle.default_laws.proofs.EverywhereLaw.{everywhere-same}

@@ -2,24 +2,23 @@
 -- attributes that a row does not have decides nothing: refusals 7 and 8 are the same for any other types and numbers there.
 -- Assumes nothing.
 use mathlib.Core.Path.{_≡_, refl, sym, ap, _∙_}
-use mathlib.Core.List.{List, [], _∷_}
-use mathlib.Core.Bool.{Bool, true, false, _&&_, not, _||_}
+use mathlib.Core.List.{List}
+use mathlib.Core.Bool.{Bool, true, _&&_}
 use Prim.Native.Nat.{ℕ, zero, suc, _+_, _-_, _<_, _≤_}
 use native.Mathlib.Omega.{arith}
-use lib.Dec.{ltb, eqb, leb}
+use lib.Dec.{ltb, leb}
 use lib.ListN.{length}
-use borrow.Author.Tests.{ltb-true, eqb-true, eq-eqb, leb-true}
-use Rattle.lists.specs.Lists.{pick, allBelow, firstWhere}
+use borrow.Author.Tests.{ltb-true, leb-true}
+use Rattle.lists.specs.Lists.{allBelow, firstWhere}
 use Rattle.lists.proofs.TestLaw.{both-true}
 use Rattle.lists.proofs.SearchLaw.{all-at}
 use Rattle.optable.specs.Names.{same, placeIn}
 use Rattle.optable.specs.Table.{attributes, attributeNames, value, compareType, ops, rowAt}
 use Rattle.optable.specs.Find.{slotIn}
-use Rattle.optable.specs.Takes.{resultTaken}
 use Rattle.optable.specs.declared.Row.{Row}
 use Rattle.optable.specs.declared.Rule.{Rule}
 use Rattle.optable.specs.declared.Rule.the-variants.{SameTypes, Abs, Broadcast, Clamp, Compare, Concatenate, Constant, Convert, DynamicSlice, Iota, Pad, Reduce, Reshape, Reverse, Select, Slice, Transpose}
-use Rattle.dimrules.specs.Count.{firstFailing, everywhere, sumBelow}
+use Rattle.dimrules.specs.Count.{firstFailing, everywhere}
 use Rattle.dimrules.specs.Dims.{dim, num}
 use Rattle.dimrules.specs.Types.{typeAt, allTypes, sumOfDims}
 use Rattle.dimrules.specs.declared.TensorType.{TensorType}

@@ -1,6 +1,6 @@
 -- What comes after the name of an attribute in a text of the grammar: `=` and a value, and where that is a dense value its literal in `< >`, `:` and a type.
 -- Assumes nothing.
-use mathlib.Core.Path.{_≡_, refl, sym, ap, subst, _∙_}
+use mathlib.Core.Path.{_≡_, refl, sym, ap, _∙_}
 use mathlib.Core.List.{List, [], _∷_, _++_}
 use mathlib.Core.Bool.{Bool, true, false, not}
 use Prim.Native.Nat.{ℕ, zero, suc, _<_, _≤_}

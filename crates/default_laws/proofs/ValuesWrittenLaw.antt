@@ -1,16 +1,16 @@
 -- What stands for a value that the text does not give (`noValue`, `resultValue` of an op without results, `tensor<i1>` for its type): the values before an op that
 -- is judged are those that the text writes, each with its name and its type (01: "The inputs come first, then each op's result in text order").
 -- Assumes nothing.
-use mathlib.Core.Path.{_≡_, refl, sym, ap, _∙_}
+use mathlib.Core.Path.{_≡_, sym, ap, _∙_}
 use mathlib.Core.List.{List, [], _∷_}
-use mathlib.Core.Bool.{Bool, true}
-use Prim.Native.Nat.{ℕ, _+_, _-_, _<_, _≤_, min}
+use mathlib.Core.Bool.{Bool}
+use Prim.Native.Nat.{ℕ, _+_, _-_, _<_, min}
 use native.Mathlib.Omega.{arith}
 use lib.Dec.{T}
 use lib.ListN.{getD}
 use borrow.Author.Tests.{lt-ltb, le-ltb}
 use Rattle.grammar.specs.Symbols.{among}
-use Rattle.grammar.proofs.TableTest.{both, both-left, both-right, both-make}
+use Rattle.grammar.proofs.TableTest.{both-left, both-right, both-make}
 use Rattle.grammar.proofs.Within.{allIn, allPass, member-passes, yields-within}
 use Rattle.syntax.specs.Roles.{rolesOf}
 use Rattle.syntax.specs.OpsAlone.{Outline}
@@ -22,7 +22,7 @@ use Rattle.program.specs.Program.{programOf}
 use Rattle.program.proofs.PlaceLaw.{headSet, head-closed}
 use Rattle.places.specs.Places.{inputName, inputType, resultName, resultType, countOf, placeOf}
 use Rattle.values.specs.declared.Values.{Values}
-use Rattle.values.specs.Values.{noValue, inputValue, resultValue, inputsOf, opsOf, valueAt, valuesIn}
+use Rattle.values.specs.Values.{noValue, inputValue, resultValue, inputsOf, valueAt, valuesIn}
 use Rattle.reading_laws.proofs.CountLaw.{wide-none, flat, flat-count, ofPart, yields-even}
 use Rattle.reading_laws.proofs.OpsLaw.{outlined, at-places}
 use Rattle.default_laws.specs.Written.{said}

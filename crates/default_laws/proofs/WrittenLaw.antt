@@ -1,7 +1,7 @@
 -- What stands in the definitions for an op, a type or a number of parts that reading refuses: a text without refusals 1 to 4 does not meet it
 -- (01: "Refusals 1 to 4 come first").
 -- Assumes nothing.
-use mathlib.Core.Path.{_≡_, refl, sym, ap, _∙_}
+use mathlib.Core.Path.{_≡_}
 use mathlib.Core.List.{List, [], _∷_}
 use mathlib.Core.Bool.{true}
 use Prim.Native.Nat.{ℕ, _+_, _<_, _≤_}
