@@ -1,35 +1,35 @@
 -- The seven texts on i1, computed.
 -- Assumes nothing.
 use mathlib.Core.Path.{refl}
-use lib.ListN.{getD}
-use Rattle.start_examples.specs.Starts.{noRow, identities, boolean, Witnessed}
-use Rattle.start_examples.proofs.Computing.{reading, Held, witnessed}
+use Rattle.start_examples.specs.Starts.{identities, boolean, Witnessed}
+use Rattle.start_examples.proofs.Computing.{reading, tableRow, Held, witnessed}
 
-row-0 : Held boolean (getD identities 0 noRow)
+-- a declaration for each row: what computing one text held is given back before the next
+row-0 : Held boolean (tableRow 0)
 unfolding reading
 row-0 = refl
 
-row-1 : Held boolean (getD identities 1 noRow)
+row-1 : Held boolean (tableRow 1)
 unfolding reading
 row-1 = refl
 
-row-2 : Held boolean (getD identities 2 noRow)
+row-2 : Held boolean (tableRow 2)
 unfolding reading
 row-2 = refl
 
-row-3 : Held boolean (getD identities 3 noRow)
+row-3 : Held boolean (tableRow 3)
 unfolding reading
 row-3 = refl
 
-row-4 : Held boolean (getD identities 4 noRow)
+row-4 : Held boolean (tableRow 4)
 unfolding reading
 row-4 = refl
 
-row-5 : Held boolean (getD identities 5 noRow)
+row-5 : Held boolean (tableRow 5)
 unfolding reading
 row-5 = refl
 
-row-6 : Held boolean (getD identities 6 noRow)
+row-6 : Held boolean (tableRow 6)
 unfolding reading
 row-6 = refl
 

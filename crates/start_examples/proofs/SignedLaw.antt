@@ -3,38 +3,38 @@
 use mathlib.Core.Path.{refl}
 use mathlib.Core.Bool.{false}
 use mathlib.Core.List.{[], _∷_}
-use lib.ListN.{getD}
 use Rattle.element.specs.declared.ElementType.the-variants.{I8}
 use Rattle.scalar.specs.declared.Body.the-variants.{Add}
 use Rattle.ops.specs.declared.Kind.the-variants.{Constant, Reduce}
-use Rattle.start_examples.specs.Starts.{fromInput, filled, reducing, noRow, identities, signed, Witnessed, Refuted}
-use Rattle.start_examples.proofs.Computing.{reading, Gave, Held, witnessed, counterexample}
+use Rattle.start_examples.specs.Starts.{fromInput, filled, reducing, identities, signed, Witnessed, Refuted}
+use Rattle.start_examples.proofs.Computing.{reading, tableRow, Gave, Held, witnessed, counterexample}
 
-row-0 : Held signed (getD identities 0 noRow)
+-- a declaration for each row: what computing one text held is given back before the next
+row-0 : Held signed (tableRow 0)
 unfolding reading
 row-0 = refl
 
-row-1 : Held signed (getD identities 1 noRow)
+row-1 : Held signed (tableRow 1)
 unfolding reading
 row-1 = refl
 
-row-2 : Held signed (getD identities 2 noRow)
+row-2 : Held signed (tableRow 2)
 unfolding reading
 row-2 = refl
 
-row-3 : Held signed (getD identities 3 noRow)
+row-3 : Held signed (tableRow 3)
 unfolding reading
 row-3 = refl
 
-row-4 : Held signed (getD identities 4 noRow)
+row-4 : Held signed (tableRow 4)
 unfolding reading
 row-4 = refl
 
-row-5 : Held signed (getD identities 5 noRow)
+row-5 : Held signed (tableRow 5)
 unfolding reading
 row-5 = refl
 
-row-6 : Held signed (getD identities 6 noRow)
+row-6 : Held signed (tableRow 6)
 unfolding reading
 row-6 = refl
 

@@ -43,7 +43,7 @@ fromConstant =
 unfoldable pub fromInput : List String
 fromInput = "func.func @m(%x: tensor<2xT>, %s: tensor<T>) -> tensor<T> {" ∷ reduction
 
--- the bytes of these lines, with what stands for O, T and S
+-- the bytes of these lines, with what stands for O (byte 79), T (84) and S (83)
 unfoldable pub filled : String → String → String → List String → List ℕ
 filled op type start lines = concat (map (λ line. concat (map byte (ascii line)) ++ ascii "\n") lines)
   where
@@ -79,10 +79,6 @@ identities =
     ∷ row Or "or" "0" "0" "false"
     ∷ row Xor "xor" "0" "0" "false"
     ∷ []
-
--- what is read past the end of the rows
-abbrev pub noRow : Row
-noRow = row Add "" "" "" ""
 
 -- an element type, its name, and its literals in a row
 pub record Column : Type 0 where
