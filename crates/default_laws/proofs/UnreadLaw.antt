@@ -28,6 +28,13 @@ use Rattle.rules.specs.Constraints.{sameTypesConstraints, concatenateConstraint
 use Rattle.opcheck.specs.Judged.{takenAt, takenByTables, constraintsBy, brokenBy}
 use Rattle.opcheck.specs.declared.Operation.{Operation}
 use Rattle.reading_laws.proofs.HeldLaw.{sum-same}
+use Rattle.optable.specs.Takes.{resultTaken}
+use Rattle.program.specs.declared.Parts.{Parts}
+use Rattle.places.specs.Places.{opName, placeOf}
+use Rattle.values.specs.declared.Value.{Value}
+use Rattle.bodies.specs.Bodies.{rowNamed}
+use Rattle.typing.specs.Typing.{rowOf, operationOf, inTable, typedOp}
+use Rattle.nodes.proofs.TypedLaw.{typed-parts}
 use Rattle.default_laws.specs.Unread.{AsFar}
 use Rattle.default_laws.proofs.EverywhereLaw.{everywhere-same, all-types-same}
 
@@ -190,3 +197,18 @@ missing-unread i l o q least s =
     let m : operandsNamed (row .rule) ≤ row .least = leb-true _ _ (g .0) in
     let k : numbersNamed (row .rule) ≤ row .needed = leb-true _ _ (g .1) in
     by-rule row o q s (row .rule) (omega arith) k (h .1)
+
+-- so of an op that is typed: what stands for a type or a number that its row has no place for is not read
+pub typed-unread : (text : List ℕ) (op : Parts) (values : List Value) (n : ℕ) → typedOp text op (rowOf text op) values n ≡ true → (q : Operation) →
+    AsFar (rowOf text op) (operationOf text op (rowOf text op)) q → brokenBy (rowOf text op .rule) (operationOf text op (rowOf text op)) ≡ brokenBy (rowOf text op .rule) q
+unfolding rowOf inTable takenByTables
+typed-unread text op values n typed q s =
+    let row = rowOf text op in
+    let o = operationOf text op row in
+    let t = typed-parts text op row values n typed in
+    let few = leb (row .least) (o .arity) in
+    let most = leb (o .arity) (row .most) in
+    let each = everywhere (o .arity) (takenAt row o) in
+    let h = both-true (few && most && each) (resultTaken row (o .result .element)) (t .taken) .0 in
+    let g = both-true few most (both-true (few && most) each h .0) .0 in
+    missing-unread (rowNamed text (placeOf op opName 0)) (ltb-true _ _ (t .table)) o q (leb-true (row .least) (o .arity) g) s
