@@ -143,6 +143,9 @@ pub fn no_arguments() -> bool {
     if os::arg_count() < 2 {
         return true;
     }
-    io::write_all(libc::STDERR_FILENO, b"no argument is taken: the text is read from standard input\n");
+    io::write_all(
+        libc::STDERR_FILENO,
+        b"no argument is taken: the text is read from standard input\n",
+    );
     false
 }
