@@ -76,14 +76,14 @@ module _ (xs : List ℕ) (r : ℕ) (new old : List ℕ) (e : laid r new ≡ writ
   abbrev rest : List ℕ
   rest = drop (0 + length xs) old
 
-  is-end : r ≡ length xs
-  is-end = ap (λ (l : Laid). l .place) e ∙ zero-add (length xs)
+  pub front-end : r ≡ length xs
+  front-end = ap (λ (l : Laid). l .place) e ∙ zero-add (length xs)
 
   is-memory : new ≡ xs ++ rest
   is-memory = ap (λ (l : Laid). l .memory) e
 
   pub front-bytes : (r ≤ length new) × (take r new ≡ xs)
-  front-bytes = rw (is-end, is-memory) (omega (arith, length-append xs rest), take-append-seam xs rest)
+  front-bytes = rw (front-end, is-memory) (omega (arith, length-append xs rest), take-append-seam xs rest)
 
   pub front-length : length xs ≤ length old → length new ≡ length old
   front-length h = rw is-memory (omega (arith, length-append xs rest, length-drop (0 + length xs) old))
@@ -92,7 +92,7 @@ module _ (xs : List ℕ) (r : ℕ) (new old : List ℕ) (e : laid r new ≡ writ
   pub written-next : (ys : List ℕ) (l : Laid) → length xs + length ys ≤ length old → l ≡ written ys r new → l ≡ written (xs ++ ys) 0 old
   written-next ys l h f =
       f
-      ∙ sym (lay-room ys r new (omega (arith, is-end, front-length (omega arith))))
+      ∙ sym (lay-room ys r new (omega (arith, front-end, front-length (omega arith))))
       ∙ ap (lay ys) (e ∙ sym (lay-room xs 0 old (omega arith)))
       ∙ sym (lay-append xs ys (laid 0 old))
       ∙ lay-room (xs ++ ys) 0 old (omega (arith, length-append xs ys))

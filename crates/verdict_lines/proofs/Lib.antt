@@ -1,2 +1,3 @@
 pub mod DecimalLaw
 pub mod LineLaw
+pub mod WholeLaw
