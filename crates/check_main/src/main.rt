@@ -1,20 +1,29 @@
 // Checks a text on standard input: prints `accepted`, or `refused` and the three numbers of refusal 1 to 8.
-use streams::further_bytes;
-use streams::print_refused;
-use verify::check;
+ghost use mathlib.Core.Path.{_≡_};
+ghost use Prim.Native.Nat.{_≤_};
+ghost use lib.ListN.{length};
+use streams::no_arguments;
+use streams::read_text;
+use streams::write_text;
+use verdict_lines::print_verdict;
+
+// Reads the text, checks it and writes what is printed: `text` and `out` are lent for it.
+fn run(text: &mut [u8], out: &mut [u8])
+    requires { ⌜ (length (now text) ≡ 65537) × (71 ≤ length (now out)) ⌝ }
+{
+    let t = read_text(text);
+    if t.failed {
+        return;
+    }
+    let n = t.len;
+    let r = print_verdict(&text[..n], t.more, out);
+    write_text(&out[..r]);
+}
 
 fn main() {
-    let mut text = [0u8; 65537];
-    let n = io::read_full(0, &mut text);
-    let r = check(&text[..n]);
-    if r.number == 0 {
-        io::write_all(1, b"accepted\n");
-        return;
+    if no_arguments() {
+        let mut text = [0u8; 65537];
+        let mut out = [0u8; 71];
+        run(&mut text, &mut out);
     }
-    if r.number == 1 {
-        let more = further_bytes();
-        print_refused(1, n + more, 0);
-        return;
-    }
-    print_refused(r.number, r.a, r.b);
 }

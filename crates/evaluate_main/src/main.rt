@@ -1,23 +1,31 @@
 // Evaluates a text without inputs on standard input over a store of 8,192 slots: prints one line per result, or `refused` and the three numbers
 // (01, "Table of examples").
-use evaluate::evaluate;
-use result_lines::show_results;
-use streams::further_bytes;
-use streams::print_refused;
+ghost use mathlib.Core.Path.{_≡_};
+ghost use Prim.Native.Nat.{_≤_};
+ghost use lib.ListN.{length};
+use program_output::print_output;
+use result_lines::Lines;
+use streams::no_arguments;
+use streams::read_text;
+use streams::write_text;
+
+// Reads the text, evaluates it and writes what is printed: `text` and `out` are lent for it.
+fn run(text: &mut [u8], out: &mut [u8])
+    requires { ⌜ (length (now text) ≡ 65537) × (1600008 ≤ length (now out)) ⌝ }
+{
+    let t = read_text(text);
+    if t.failed {
+        return;
+    }
+    let n = t.len;
+    let r = print_output(&text[..n], t.more, out);
+    write_text(&out[..r]);
+}
 
 fn main() {
-    let mut text = [0u8; 65537];
-    let mut store = [0u64; 8192];
-    let n = io::read_full(0, &mut text);
-    let r = evaluate(&text[..n], &[0u64; 0], &mut store);
-    if r.number == 0 {
-        show_results(&text[..n], &store);
-        return;
+    if no_arguments() {
+        let mut text = [0u8; 65537];
+        let mut out = [0u8; Lines::MOST];
+        run(&mut text, &mut out);
     }
-    if r.number == 1 {
-        let more = further_bytes();
-        print_refused(1, n + more, 0);
-        return;
-    }
-    print_refused(r.number, r.a, r.b);
 }

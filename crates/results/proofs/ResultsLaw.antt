@@ -42,13 +42,13 @@ module _ (text : List ℕ) (op : Parts) (vs : Values) (n : ℕ) (slots : List �
   unfolding linesOf
   lines-all = refl
 
--- a line end behind what was written from the front
-pub line-end : (xs old : List ℕ) (l : Laid) → length xs ≤ 200000 → 200001 ≤ length old → l ≡ written xs 0 old → put 10 l ≡ written (xs ++ (10 ∷ [])) 0 old
-line-end xs old l h r e =
-    ap (put 10) (e ∙ sym (lay-room xs 0 old (omega arith)))
-    ∙ sym (lay-one 10 (lay xs (laid 0 old)))
-    ∙ sym (lay-append xs (10 ∷ []) (laid 0 old))
-    ∙ lay-room (xs ++ (10 ∷ [])) 0 old (omega (arith, length-append xs (10 ∷ [])))
+-- a line end behind what was written
+pub line-end : (xs : List ℕ) (k : ℕ) (old : List ℕ) (l : Laid) → length xs ≤ 200000 → k + 200001 ≤ length old → l ≡ written xs k old → put 10 l ≡ written (xs ++ (10 ∷ [])) k old
+line-end xs k old l h r e =
+    ap (put 10) (e ∙ sym (lay-room xs k old (omega arith)))
+    ∙ sym (lay-one 10 (lay xs (laid k old)))
+    ∙ sym (lay-append xs (10 ∷ []) (laid k old))
+    ∙ lay-room (xs ++ (10 ∷ [])) k old (omega (arith, length-append xs (10 ∷ [])))
 
 -- a part of a list is as long as from its start to its end
 pub part-length : (at n : ℕ) (l : List ℕ) → at + n ≤ length l → length (take (at + n - at) (drop at l)) ≡ n
@@ -66,10 +66,33 @@ dense-small vs slots i read h =
     let s = getD (vs .list) i noValue .ty .shape in
     printed-length _ (dimsOf s) _ (omega (arith, length-take (s .rank) (s .dims), read .sized i h .rank)) (read .sized i h .volume)
 
--- what was written from the front is what the first bytes hold
-pub front-bytes : (xs : List ℕ) (r : ℕ) (new old : List ℕ) → laid r new ≡ written xs 0 old → (r ≤ length new) × (take r new ≡ xs)
-front-bytes xs r new old e =
-    let rest = drop (0 + length xs) old in
-    let p : r ≡ length xs = ap (λ (l : Laid). l .place) e ∙ zero-add (length xs) in
-    let m : new ≡ xs ++ rest = ap (λ (l : Laid). l .memory) e in
-    rw (p, m) (omega (arith, length-append xs rest), take-append-seam xs rest)
+-- and its line one more
+pub line-small : (vs : Values) (slots : List ℕ) (i : ℕ) → ValuesRead vs → i < 264 → length (lineOf vs slots i) ≤ 200001
+unfolding lineOf
+line-small vs slots i read h = omega (arith, length-append (denseOf vs slots i) (10 ∷ []), dense-small vs slots i read h)
+
+-- what was written from the front: where it ends, how long the memory is, and what its first bytes are
+module _ (xs : List ℕ) (r : ℕ) (new old : List ℕ) (e : laid r new ≡ written xs 0 old) where
+  abbrev rest : List ℕ
+  rest = drop (0 + length xs) old
+
+  pub front-end : r ≡ length xs
+  front-end = ap (λ (l : Laid). l .place) e ∙ zero-add (length xs)
+
+  is-memory : new ≡ xs ++ rest
+  is-memory = ap (λ (l : Laid). l .memory) e
+
+  pub front-bytes : (r ≤ length new) × (take r new ≡ xs)
+  front-bytes = rw (front-end, is-memory) (omega (arith, length-append xs rest), take-append-seam xs rest)
+
+  pub front-length : length xs ≤ length old → length new ≡ length old
+  front-length h = rw is-memory (omega (arith, length-append xs rest, length-drop (0 + length xs) old))
+
+  -- more behind it
+  pub written-next : (ys : List ℕ) (l : Laid) → length xs + length ys ≤ length old → l ≡ written ys r new → l ≡ written (xs ++ ys) 0 old
+  written-next ys l h f =
+      f
+      ∙ sym (lay-room ys r new (omega (arith, front-end, front-length (omega arith))))
+      ∙ ap (lay ys) (e ∙ sym (lay-room xs 0 old (omega arith)))
+      ∙ sym (lay-append xs ys (laid 0 old))
+      ∙ lay-room (xs ++ ys) 0 old (omega (arith, length-append xs ys))

@@ -14,10 +14,24 @@ ghost use Rattle.laid.specs.Laid.{laid, written};
 ghost use Rattle.offsets.specs.Offsets.{ValuesRead, sizeAt, offsetAt};
 ghost use Rattle.results.specs.Results.{resultAt, lineOf};
 
-// The line of value i, whose elements begin at slot `at`, into `out` from its front: how many bytes it has.
-pub fn print_value(vs: Values, slots: &[u64], at: usize, i: usize, out: &mut [u8]) -> usize
-    requires { ⌜ (i < 264) × ValuesRead vs × (at ≡ offsetAt vs i) × (at + sizeAt vs i ≤ length (now slots)) × (200001 ≤ length (now out)) ⌝ }
-    ensures { λ r. ⌜ laid r (now (out .exit)) ≡ written (lineOf vs (now (slots .entry)) i) 0 (now (out .entry)) ⌝ }
+// How many bytes a line has at most: the 200,000 of a value, and the line end.
+pub struct Line {}
+
+impl Line {
+    pub const MOST: usize = 200001;
+}
+
+// The line of value i, whose elements begin at slot `at`, into `out` from `from` on, and the place after the last byte.
+pub fn print_value(
+    vs: Values,
+    slots: &[u64],
+    at: usize,
+    i: usize,
+    out: &mut [u8],
+    from: usize,
+) -> usize
+    requires { ⌜ (i < 264) × ValuesRead vs × (at ≡ offsetAt vs i) × (at + sizeAt vs i ≤ length (now slots)) × (from + 200001 ≤ length (now out)) ⌝ }
+    ensures { λ r. ⌜ laid r (now (out .exit)) ≡ written (lineOf vs (now (slots .entry)) i) from (now (out .entry)) ⌝ }
 {
     let list = vs.list;
     let v = list[i];
@@ -25,7 +39,7 @@ pub fn print_value(vs: Values, slots: &[u64], at: usize, i: usize, out: &mut [u8
     let e = t.element;
     let s = t.shape;
     let end = at + size_of(s);
-    let p = print_dense(e, s, &slots[at..end], out, 0);
+    let p = print_dense(e, s, &slots[at..end], out, from);
     put_byte(out, p, b'\n')
 }
 

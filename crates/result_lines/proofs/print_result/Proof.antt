@@ -1,14 +1,9 @@
 -- `result_lines::print_result` meets its contract.
 -- Assumes nothing.
 use Prim.Native.Nat.{_<_}
-use mathlib.Core.Path.{sym}
 use native.Mathlib.Omega.{arith}
-use denote.Ref.{now}
-use lib.Seq.{length-take-le}
 use borrow.Author.Needs.{needs}
 use Rattle.offsets.proofs.OffsetsLaw.{offset-read, within}
-use Rattle.results.specs.Results.{lineOf}
-use Rattle.results.proofs.ResultsLaw.{front-bytes}
 use Rattle.result_lines.proofs.print_result.Statement.{statement}
 use Rattle.result_lines.proofs.print_result.Tie as tie
 
@@ -22,15 +17,6 @@ print-value-requires c κs =
     let at = offset-read (s .args .vs) (s .args .t2) (s .pre .2) (s .args .i) (few s) in
     (few s, s .pre .1, at, omega (arith, at, within (s .args .vs) (s .args .i) (s .pre .0), s .pre .3), s .pre .4)
 
-prefix : tie.Need-slice-reshare-prefix-write-all
-prefix c =
-    let a = c .before .before .before .before .before .before .args in
-    front-bytes (lineOf (a .vs) (now (a .store)) (a .i)) _ _ (now (a .out)) (c .before .before .print-value .ensures) .0
-
-counted : tie.Need-slice-aggregate-write-all
-counted c = sym (length-take-le (c .before .before .before .print-value .result) _ (prefix (c .before)))
-
 pub print-result-spec : {M : Type 1} → statement M
 print-result-spec =
-    tie.close (tie.spec (λ c. search needs) (λ c. search (needs, few (c .before .before))) print-value-requires prefix counted
-    (λ c κs. search needs) (λ c. search needs) (λ c. search needs))
+    tie.close (tie.spec (λ c. search needs) (λ c. search (needs, few (c .before .before))) print-value-requires (λ c. search needs) (λ c. search needs))

@@ -59,7 +59,7 @@ returns c =
     let n = dense-small (a .vs) (now (a .slots)) (a .i) (s .pre .1) (s .pre .0) in
     let v = dense-read (a .vs) (now (a .slots)) (a .i) (a .at) _ _ (read s _) (s .pre .2) (counted (c .before .before .before .before .before .before .before .before .before)) in
     c .before .before .put-byte .ensures
-    ∙ line-end (denseOf (a .vs) (now (a .slots)) (a .i)) (now (a .out)) _ n (s .pre .4) (c .before .before .before .before .before .before .print-dense .ensures ∙ ap (λ (x : List ℕ). written x 0 (now (a .out))) v)
+    ∙ line-end (denseOf (a .vs) (now (a .slots)) (a .i)) (a .from) (now (a .out)) _ n (s .pre .4) (c .before .before .before .before .before .before .print-dense .ensures ∙ ap (λ (x : List ℕ). written x (a .from) (now (a .out))) v)
 
 pub print-value-spec : {M : Type 1} → statement M
 print-value-spec =

@@ -1,0 +1,3 @@
+pub mod DecimalLaw
+pub mod LineLaw
+pub mod WholeLaw
