@@ -9,6 +9,7 @@ ghost use Rattle.streams.specs.Cut.{Cut};
 ghost use Rattle.program_output.specs.Output.{alone, outputOf};
 use evaluate::evaluate;
 use judge::Refusal;
+use limits::Limits;
 use result_lines::print_results;
 use verdict_lines::print_refused;
 use verdict_lines::whole_refusal;
@@ -37,7 +38,7 @@ pub fn print_output(text: &[u8], more: usize, out: &mut [u8]) -> usize
     requires { ⌜ Cut 65537 (length (now text)) more × (1600008 ≤ length (now out)) ⌝ }
     ensures { λ n. ⌜ ((rest : List ℕ) → length rest ≡ more → laid n (now (out .exit)) ≡ written (outputOf (now (text .entry) ++ rest)) 0 (now (out .entry))) ⌝ }
 {
-    let mut store = [0u64; 8192];
+    let mut store = [0u64; Limits::ELEMENTS];
     let r = evaluate(text, &[0u64; 0], &mut store);
     print_evaluated(text, more, r, &store, out)
 }

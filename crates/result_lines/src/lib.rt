@@ -32,7 +32,7 @@ impl Lines {
 // The line of value i into `out` from `from` on, and the place after it.
 fn print_result(
     vs: Values,
-    starts: [usize; 264],
+    starts: [usize; Limits::VALUES],
     store: &[u64],
     i: usize,
     out: &mut [u8],
