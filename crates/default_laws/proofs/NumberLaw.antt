@@ -1,4 +1,5 @@
--- What stands for a single number outside the signed 64-bit range (`patternAt`'s 0): in a text without refusals 1 to 4 the number lies in it
+-- What stands for a number outside the signed 64-bit range (`patternAt`'s 0): in a text without refusals 1 to 4 every attribute's number lies in it, and a single
+-- number that is read is the one that is written
 -- (01, Sizes, 7: "An attribute number outside `dense` lies in the signed 64-bit range").
 -- Assumes nothing.
 use mathlib.Core.Path.{_≡_, refl, sym, ap, subst, _∙_}
@@ -35,7 +36,7 @@ use Rattle.syntax.proofs.Theorems.{no-fault}
 use Rattle.optable.specs.Table.{Number, choiceKinds, choiceForm}
 use Rattle.attribute.specs.Attribute.{tokenAfter, valueAt, wordForm, choiceAt, formAt, patternAt, numberAt}
 use Rattle.judge.specs.declared.tally.Tally.{Tally}
-use Rattle.judge.specs.Roles.{among as amongRoles}
+use Rattle.judge.specs.Roles.{among as amongRoles, numberRoles}
 use Rattle.judge.specs.Tally.{atStart, afterToken}
 use Rattle.judge.specs.Sizes.{largeNumber, passes}
 use Rattle.judge.specs.Judge.{textRefusal}
@@ -103,9 +104,13 @@ module _ (text : List ℕ) where
       (choice-form (choiceAt text name .kind)) e) in
       rw k
 
-  -- a token that is a single number
-  abbrev InRange : Reading → Type 0
-  InRange x = x .role ≡ SingleNumber → Fits (x .token .start)
+  -- a token that is a number outside `dense`: a single one or one of a list
+  abbrev pub InRange : Reading → Type 0
+  InRange x = amongRoles numberRoles (x .role) ≡ true → Fits (x .token .start)
+
+  single : (x : Reading) → InRange x → x .role ≡ SingleNumber → Fits (x .token .start)
+  unfolding amongRoles
+  single x h e = h (rw e)
 
   -- each token comes after the one before, and is of a kind of its role
   abbrev Follow : ℕ → List Reading → Type 0
@@ -124,7 +129,7 @@ module _ (text : List ℕ) where
           not-both m (not-number (x .role) r)
 
       by-role : (b c d : Bool) → eqb (x .role) SingleNumber ≡ b → eqb (x .role) dense ≡ c → among (array ∷ dialect ∷ Value ∷ []) (x .role) ≡ d → Fits (tokenAt text at .start)
-      by-role true c d q r s = subst (λ (t : Token). Fits (t .start)) (f .0) (f .2 (eqb-true (x .role) SingleNumber q))
+      by-role true c d q r s = subst (λ (t : Token). Fits (t .start)) (f .0) (single x (f .2) (eqb-true (x .role) SingleNumber q))
       by-role false true d q r s = absurd (other (rw r))
       by-role false false true q r s = absurd (other (rw (r, s)))
       by-role false false false q r s = absurd (stuck (rolesOf xs) (next-run 2 7 (x .role) (rolesOf xs) (rw (q, r, s)) e))
@@ -166,7 +171,7 @@ module _ (text : List ℕ) where
   reads-follow (read s r) t d = let f = stand-first text t in (refl, f .0, d .0, reads-follow r (f .1) (d .1))
 
   in-range : (s : Tally) (x : Reading) → Sound text s x → InRange x
-  unfolding passes largeNumber amongRoles
+  unfolding passes largeNumber
   in-range s x g w =
       let a = passes-none text s x (g .sized) in
       let k : not (numberIn I64 (numberOf text (x .token .start)) .fits) ≡ false = rw w at (a .1 .1 .1 .1 .1 .1 .0) in
@@ -176,12 +181,16 @@ module _ (text : List ℕ) where
   each-in-range s [] e = tt
   each-in-range s (x ∷ xs) e = (in-range s x (token-sound text s x (e .0)), each-in-range (afterToken text s (x .role) (x .token)) xs (e .1))
 
+  -- every number of the text's attributes outside `dense`
+  pub numbers-in-range : textRefusal text .number ≡ 0 → All InRange (readings text)
+  numbers-in-range e = each-in-range atStart (readings text) (accepted-each text e)
+
   text-named : textRefusal text .number ≡ 0 → All (λ x. x .role ≡ AttributeName → NumberStands (x .token .start)) (readings text)
   unfolding readings readingsOf
   text-named e =
       let w = whole text (no-fault text (accepted-sentence text e)) in
       all-named 0 0 (readings text) (program-run (reads-yields (w .reads)))
-      (reads-follow (w .reads) (parsed (reads-gives (w .reads)) .tokens) (each-in-range atStart (readings text) (accepted-each text e)))
+      (reads-follow (w .reads) (parsed (reads-gives (w .reads)) .tokens) (numbers-in-range e))
 
 module _ (text : List ℕ) (read : textRefusal text .number ≡ 0) where
   abbrev op : ℕ → Parts
