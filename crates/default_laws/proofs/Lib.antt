@@ -10,3 +10,4 @@ pub mod UnreadLaw
 pub mod EarlierLaw
 pub mod ValuesWrittenLaw
 pub mod NumberLaw
+pub mod ListLaw
