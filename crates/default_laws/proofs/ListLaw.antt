@@ -1,4 +1,5 @@
--- The cut of an attribute list at six numbers: no list of a text without refusals 1 to 4 has more (01, Sizes, 6: "An attribute list has at most 6 numbers").
+-- The numbers of an attribute list as the text writes them: in a text without refusals 1 to 4 at most six stand one after the other, split by commas
+-- (01, Sizes, 6: "An attribute list has at most 6 numbers"). That `numbersAt` walks over just these tokens is not stated here.
 -- Assumes nothing.
 use mathlib.Core.Path.{_≡_, ap, subst, _∙_}
 use mathlib.Core.List.{List, [], _∷_, _++_}

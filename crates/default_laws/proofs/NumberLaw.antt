@@ -20,7 +20,7 @@ use Rattle.element.specs.Types.{slotOf}
 use Rattle.element.specs.declared.ElementType.the-variants.{I64}
 use Rattle.types.specs.Numbers.{numberOf, inType, numberIn, fitting, unfit}
 use Rattle.types.specs.declared.numbers.Number.{Number as NumberRead}
-use Rattle.grammar.specs.Symbols.{NUMBER, AttributeName, SingleNumber, equals, dialect, array, dense, Value, Program, among, matches, leafKinds}
+use Rattle.grammar.specs.Symbols.{NUMBER, AttributeName, SingleNumber, equals, dialect, array, dense, Value, among, matches, leafKinds}
 use Rattle.grammar.specs.Leaves.{StandFor}
 use Rattle.grammar.proofs.TableTest.{true-T}
 use Rattle.grammar.proofs.Within.{member-passes}
