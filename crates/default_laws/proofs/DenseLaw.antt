@@ -43,7 +43,7 @@ use Rattle.part_laws.specs.Granted.{TypeStands}
 use Rattle.default_laws.proofs.ValueLaw.{next, run, stuck, program-run, named-run}
 
 -- a run goes on from the next state
-next-run : (s t r : ℕ) (rs : List ℕ) → next s r ≡ t → run s (r ∷ rs) ≡ 0 → run t rs ≡ 0
+pub next-run : (s t r : ℕ) (rs : List ℕ) → next s r ≡ t → run s (r ∷ rs) ≡ 0 → run t rs ≡ 0
 next-run s t r rs q e = subst (λ (n : ℕ). run n rs ≡ 0) q e
 
 -- ---- kinds of tokens
@@ -93,10 +93,10 @@ is-close : (text : List ℕ) (t : Token) → t .kind ≡ 62 → kindOf text t �
 unfolding kindOf tokenKind markKind
 is-close text t e = rw e
 
-not-both : {b : Bool} → b ≡ true → b ≡ false → ⊥
+pub not-both : {b : Bool} → b ≡ true → b ≡ false → ⊥
 not-both e f = let z : true ≡ false = sym e ∙ f in let w : _≡_ {A = ℕ} 0 1 = cc in omega arith
 
-no-T : (b : Bool) → T (not b) → b ≡ false
+pub no-T : (b : Bool) → T (not b) → b ≡ false
 no-T true t = absurd t
 no-T false t = refl
 
@@ -292,7 +292,7 @@ module _ (text : List ℕ) where
 
   -- ---- the readings of a text
 
-  stand-first : {l k : ℕ} {ls ks : List ℕ} → StandFor (l ∷ ls) (k ∷ ks) → (matches l k ≡ true) × StandFor ls ks
+  pub stand-first : {l k : ℕ} {ls ks : List ℕ} → StandFor (l ∷ ls) (k ∷ ks) → (matches l k ≡ true) × StandFor ls ks
   stand-first (allowed m t) = (m, t)
 
   reads-follow : {ss : List ℕ} {last at : ℕ} {xs : List Reading} → Reads text last ss at xs → StandFor (rolesOf xs) (kindsOf text (tokensOf xs)) → All DenseTyped xs → Follow at xs

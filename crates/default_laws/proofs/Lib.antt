@@ -9,3 +9,5 @@ pub mod OperandLaw
 pub mod UnreadLaw
 pub mod EarlierLaw
 pub mod ValuesWrittenLaw
+pub mod NumberLaw
+pub mod ListLaw
