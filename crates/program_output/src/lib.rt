@@ -15,13 +15,7 @@ use verdict_lines::print_refused;
 use verdict_lines::whole_refusal;
 
 // The output of a text with answer r, whose values stand in the store.
-fn print_evaluated(
-    text: &[u8],
-    more: usize,
-    r: Refusal,
-    store: &[u64],
-    out: &mut [u8],
-) -> usize
+fn print_evaluated(text: &[u8], more: usize, r: Refusal, store: &[u64], out: &mut [u8]) -> usize
     requires { ⌜ Cut 65537 (length (now text)) more × (1600008 ≤ length (now out)) × (length (now store) ≡ 8192) × (answer r (now store) ≡ alone (now text)) ⌝ }
     ensures { λ n. ⌜ ((rest : List ℕ) → length rest ≡ more → laid n (now (out .exit)) ≡ written (outputOf (now (text .entry) ++ rest)) 0 (now (out .entry))) ⌝ }
 {

@@ -64,7 +64,7 @@ module _ (text : List ℕ) (op : Parts) (vs : Values) (slots : List ℕ) (old : 
         record {
           short = omega (arith, p .short, small, end);
           lines = written-next xs place out old (p .lines) (lineOf vs slots i) (laid r new) (omega (arith, before, small)) l
-            ∙ ap (λ (x : List ℕ). written x 0 old) (ap (λ (k : ℕ). xs ++ lineOf vs slots k) e ∙ sym (lines-next text op vs (vs .count) slots j));
+              ∙ ap (λ (x : List ℕ). written x 0 old) (ap (λ (k : ℕ). xs ++ lineOf vs slots k) e ∙ sym (lines-next text op vs (vs .count) slots j));
         }
 
 -- all of them

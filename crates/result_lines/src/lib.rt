@@ -56,7 +56,14 @@ fn print_lines(text: &[u8], p: Program, vs: Values, store: &[u64], out: &mut [u8
     let starts = offsets_of(vs);
     let mut place = 0;
     for j in 0..arity_of(op) {
-        place = print_result(vs, starts, store, result_number(text, op, vs, n, j), out, place);
+        place = print_result(
+            vs,
+            starts,
+            store,
+            result_number(text, op, vs, n, j),
+            out,
+            place,
+        );
     }
     place
 }

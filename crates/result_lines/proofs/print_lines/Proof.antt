@@ -47,7 +47,7 @@ few c =
 result-number-requires : tie.Need-result-number-requires Inv-loop μ-loop
 result-number-requires c κs =
     let s = c .before .before .before .before .before .before .before .before .before .before in
-    (rw (s .pre .0 .2) (count-few _ _), few c)
+    (rw (s .pre .0 .2) (count-few _ _), omega (arith, few c))
 
 -- it is the number of a value
 is-value : (c : tie.After-result-number Inv-loop μ-loop) → c .result-number .result < c .before .before .before .before .before .before .before .before .before .before .before .args .vs .count
@@ -55,7 +55,7 @@ is-value c =
     let l = c .before .before in
     let o = l .before .before .before in
     let h = o .before .before .before .before .before .before .pre .0 in
-    rw (c .result-number .ensures) (result-before _ _ _ (h .1) (h .2) (h .0) _ (the-return o) (l .loop .j) (rw (← l .before .arity-of .ensures) (c .before .loop-test .taken)))
+    rw (c .result-number .ensures) (result-before _ _ _ (h .1) (h .2) (h .0) _ (the-return o) _ (omega (arith, l .before .arity-of .ensures, c .before .loop-test .taken)))
 
 print-result-requires : tie.Need-print-result-requires Inv-loop μ-loop
 print-result-requires c κs =

@@ -1,23 +1,16 @@
+-- `streams::piece_of` meets its contract.
+-- Assumes nothing.
 use mir.Facts.{toZ-ofZ}
 use Rattle.streams.proofs.PieceLaw.{failing, moving}
 use borrow.Author.Needs.{needs}
 use Rattle.streams.proofs.piece_of.Statement.{statement}
 use Rattle.streams.proofs.piece_of.Tie as tie
-use Rattle.streams.proofs.piece_of.Reads as reads
-use Rattle.streams.proofs.piece_of.Lts as lts
-use Rattle.io.proofs.count.Reads as count-reads
 
--- src/lib.rt:27:9
 returns : tie.Need-returns
 returns c = let a = c .before .before in rw (← toZ-ofZ (a .fits .got)) (failing _ _ (c .if1 .taken))
 
--- src/lib.rt:32:9
-count-requires : tie.Need-count-requires
-count-requires c κs = search needs
-
--- src/lib.rt:23:1
 returns-2 : tie.Need-returns-2
 returns-2 c = let a = c .before .before .before in rw (← toZ-ofZ (a .fits .got)) (moving _ _ _ (c .before .if1 .left) (c .count .ensures .1))
 
 pub piece-of-spec : {M : Type 1} → statement M
-piece-of-spec = tie.close (tie.spec returns count-requires returns-2)
+piece-of-spec = tie.close (tie.spec returns (λ c κs. search needs) returns-2)
