@@ -11,3 +11,4 @@ pub mod EarlierLaw
 pub mod ValuesWrittenLaw
 pub mod NumberLaw
 pub mod ListLaw
+pub mod NumbersLaw
