@@ -1,5 +1,5 @@
 -- The numbers of an attribute list as the text writes them: in a text without refusals 1 to 4 at most six stand one after the other, split by commas
--- (01, Sizes, 6: "An attribute list has at most 6 numbers"). That `numbersAt` walks over just these tokens is not stated here.
+-- (01, Sizes, 6: "An attribute list has at most 6 numbers"). That `numbersAt` walks over just these tokens is stated in NumbersLaw.
 -- Assumes nothing.
 use mathlib.Core.Path.{_≡_, ap, subst, _∙_}
 use mathlib.Core.List.{List, [], _∷_, _++_}
