@@ -10,8 +10,7 @@ use lib.ListN.{length, getD}
 use borrow.Author.Tests.{eq-eqb, le-ltb, lt-ltb}
 use Rattle.lists.specs.Lists.{pick, All, concat}
 use Rattle.lists.proofs.AllLaw.{all-get}
-use Rattle.scan.specs.Bytes.{among as amongRoles}
-use Rattle.grammar.specs.Symbols.{InputName, ResultName, OperandName, NamedOp, BodyOpen, BodyLabel, ArgumentName, ArgumentType, BodyClose, lparen, comma, colon, OpName, Body, Op, Program, leafCount, among}
+use Rattle.grammar.specs.Symbols.{NamedOp, BodyOpen, BodyLabel, ArgumentName, ArgumentType, lparen, comma, colon, OpName, Body, Op, Program, leafCount, among}
 use Rattle.grammar.specs.Grammar.{Production, grammar}
 use Rattle.grammar.specs.Derivation.{_∈_}
 use Rattle.grammar.proofs.TableTest.{both-left, both-right, or, implies, implied, up-to}
@@ -28,11 +27,12 @@ use Rattle.program.specs.declared.Parts.{Parts}
 use Rattle.program.specs.Parts.{partOf, noParts, depthAfter, partsFrom, partsOf, partsAt, opAt, bodyAt}
 use Rattle.program.specs.Program.{programOf}
 use Rattle.places.specs.Places.{bodyOpen, inputName, countOf, placeOf}
-use Rattle.scope.specs.Scope.{Scope, scope, fault, faultOf, andThen, body, waitingName, sameAt, defines, visible, define, look, settle, begins, ends, placed, turned, namesFrom, namesOf}
+use Rattle.scope.specs.Scope.{Scope, scope, fault, faultOf, andThen, body, sameAt, defines, visible, define, settle, begins, ends, placed, turned, namesFrom, namesOf}
 use Rattle.values.specs.declared.Value.{Value}
 use Rattle.known.specs.Known.{knownNames, namesFault}
 use Rattle.scope_laws.proofs.DefinedLaw.{between, added}
 use Rattle.scope_laws.proofs.PlaceBoundLaw.{Started, started}
+use Rattle.scope_laws.proofs.Theorems.{Numbered, Without, no-fault as no-faults, from-numbered, new-name}
 use Rattle.reading_laws.proofs.CountLaw.{wide-none, none-counted}
 use Rattle.reading_laws.proofs.OpsLaw.{few-bytes, outlined, op-count, op-place}
 use Rattle.part_laws.proofs.DepthLaw.{outside, keeps, yields-outside}
@@ -40,63 +40,12 @@ use Rattle.part_laws.proofs.CountLaw.{anywhere}
 use Rattle.part_laws.proofs.StandLaw.{Every, Level, parts-every, yields-leaves}
 use Rattle.body_meaning.proofs.HeadLaw.{Head, afterBrace, two-places, two-headed}
 
--- ---- a fault has a number that is not 0
+-- ---- names that are not refused
 
-abbrev Told : Scope → Type 0
-Told (scope es) = Unit {0}
-Told (fault n a) = 0 < n
-
-then-told : (s : Scope) (f : List ℕ → Scope) → Told s → ((es : List ℕ) → Told (f es)) → Told (andThen s f)
-then-told (scope es) f n g = g es
-then-told (fault m a) f n g = n
-
-pick-told : (b : Bool) (s z : Scope) → Told s → Told z → Told (pick b s z)
-pick-told true s z n m = n
-pick-told false s z n m = m
-
-module _ (text : List ℕ) where
-  define-told : (a : ℕ) (es : List ℕ) → Told (define text a es)
-  unfolding define
-  define-told a es = pick-told (visible text a es) (fault 6 a) (scope (a ∷ es)) (omega arith) tt
-
-  look-told : (a : ℕ) (es : List ℕ) → Told (look text a es)
-  unfolding look
-  look-told a es = pick-told (visible text a es) (scope es) (fault 5 a) tt (omega arith)
-
-  settle-told : (es : List ℕ) → Told (settle text es)
-  unfolding settle
-  settle-told [] = tt
-  settle-told (e ∷ es) =
-      pick-told (ltb body e) (andThen (settle text es) (define text (waitingName e))) (scope (e ∷ es))
-      (then-told (settle text es) (define text (waitingName e)) (settle-told es) (define-told (waitingName e))) tt
-
-  placed-told : (role a : ℕ) (es : List ℕ) → Told (placed text role a es)
-  unfolding placed
-  placed-told role a es =
-      pick-told (amongRoles (InputName ∷ ArgumentName ∷ []) role) (define text a es) _ (define-told a es)
-      (pick-told (eqb role ResultName) _ _ tt
-      (pick-told (eqb role OperandName) (look text a es) _ (look-told a es)
-      (pick-told (eqb role BodyOpen) _ _ tt
-      (pick-told (eqb role BodyClose) _ _ tt tt))))
-
-  turned-told : (before role a : ℕ) (es : List ℕ) → Told (turned text before role a es)
-  unfolding turned
-  turned-told before role a es =
-      pick-told (ends before role) _ _ (then-told (settle text es) (placed text role a) (settle-told es) (placed-told role a)) (placed-told role a es)
-
-  from-told : (before : ℕ) (es : List ℕ) (xs : List Reading) → Told (namesFrom text before es xs)
-  unfolding namesFrom
-  from-told before es [] = tt
-  from-told before es (x ∷ xs) = then-told (turned text before (x .role) (x .token .start) es) _ (turned-told before (x .role) (x .token .start) es) (λ rest. from-told (x .role) rest xs)
-
-record Without (s : Scope) : Type 0 where
-  out : List ℕ
-  is : s ≡ scope out
-
-without-fault : (s : Scope) (f : List ℕ → Scope) → Told s → faultOf (andThen s f) .refusal ≡ 0 → Without s
+without-fault : (s : Scope) (f : List ℕ → Scope) → Numbered s → faultOf (andThen s f) .refusal ≡ 0 → Without s
 unfolding faultOf
 without-fault (scope es) f n e = record { out = es; is = refl }
-without-fault (fault m a) f n e = absurd (omega arith)
+without-fault (fault m a) f n e = no-faults (fault m a) n e
 
 -- ---- the names of the arguments
 
@@ -109,15 +58,6 @@ module _ (text : List ℕ) where
   calm-step : (before : ℕ) (es out : List ℕ) (x : Reading) (xs : List Reading) (r : ℕ) → x .role ≡ r → turned text before r (x .token .start) es ≡ scope es →
       namesFrom text before es (x ∷ xs) ≡ scope out → namesFrom text r es xs ≡ scope out
   calm-step before es out x xs r e c n = sym (names-step before es x xs r e ∙ ap (λ (s : Scope). andThen s (λ rest. namesFrom text r rest xs)) c) ∙ n
-
-  -- a name that is defined is new
-  new-name : (a : ℕ) (es out : List ℕ) → define text a es ≡ scope out → visible text a es ≡ false
-  unfolding define
-  new-name a es out e = go (visible text a es) refl e
-    where
-      go : (b : Bool) → visible text a es ≡ b → pick b (fault 6 a) (scope (a ∷ es)) ≡ scope out → visible text a es ≡ false
-      go true v q = let z : _≡_ {A = ℕ} 0 1 = cc in absurd (omega arith)
-      go false v q = v
 
   not-same : (e a : ℕ) (es : List ℕ) → e < body → visible text a (e ∷ es) ≡ false → sameAt text e a ≡ false
   unfolding visible defines
@@ -142,7 +82,7 @@ module _ (text : List ℕ) where
       let n5 = calm-step colon m out (h .type) _ ArgumentType (h .type-role) refl n4 in
       let n6 = calm-step ArgumentType m out (h .separator) _ comma (h .separator-role) refl n5 in
       let b7 = between (define text g m) (λ rest. namesFrom text ArgumentName rest others) out (sym (names-step comma m (h .right) others ArgumentName (h .right-role)) ∙ n6) in
-      let v : visible text g (a ∷ body ∷ es) ≡ false = subst (λ (y : List ℕ). visible text g y ≡ false) (added text a (body ∷ es) m (b3 .first)) (new-name g m (b7 .mid) (b7 .first)) in
+      let v : visible text g (a ∷ body ∷ es) ≡ false = subst (λ (y : List ℕ). visible text g y ≡ false) (added text a (body ∷ es) m (b3 .first)) (new-name text g m (b7 .mid) (b7 .first)) in
       not-same a g (body ∷ es) l v
 
 -- ---- the bodies of an op
@@ -265,7 +205,7 @@ module _ (text : List ℕ) (e : textRefusal text .number ≡ 0) where
   unfolding opAt namesFault namesOf
   alone-apart values n at o a f =
       let xs = readingsOf Op text at in
-      let s = without-fault (namesFrom text 0 (knownNames values n) xs) (settle text) (from-told text 0 (knownNames values n) xs) f in
+      let s = without-fault (namesFrom text 0 (knownNames values n) xs) (settle text) (from-numbered text 0 (knownNames values n) xs) f in
       let y = o .leaves .leaves in
       let l = level-apart 0 0 (knownNames values n) (s .out) (a .pre) xs (a .post) (a .whole) (yields-leaves y) (yields-outside wholeOp keeps-op y 0 op-outside)
       (started-after (a .pre) (xs ++ a .post) (subst Started (a .whole) started-all)) (s .is) in

@@ -30,7 +30,7 @@ use Rattle.scope_laws.proofs.OperandLaw.{Noted, noted-none, names-noted
 use Rattle.scope_laws.proofs.PlaceBoundLaw.{started, op-cases, names-within, places-within}
 
 -- a fault is refusal 5 or 6
-abbrev Numbered : Scope → Type 0
+abbrev pub Numbered : Scope → Type 0
 Numbered (scope es) = Unit {0}
 Numbered (fault n a) = among (5 ∷ 6 ∷ []) n ≡ true
 
@@ -73,7 +73,7 @@ module _ (text : List ℕ) where
       pick-numbered (ends before role) (andThen (settle text es) (placed text role a)) (placed text role a es)
       (then-numbered (settle text es) (placed text role a) (settle-numbered es) (placed-numbered role a)) (placed-numbered role a es)
 
-  from-numbered : (before : ℕ) (es : List ℕ) (xs : List Reading) → Numbered (namesFrom text before es xs)
+  pub from-numbered : (before : ℕ) (es : List ℕ) (xs : List Reading) → Numbered (namesFrom text before es xs)
   unfolding namesFrom
   from-numbered before es [] = tt
   from-numbered before es (x ∷ xs) =
@@ -107,11 +107,12 @@ pub inputs-refusal : (text : List ℕ) (header : Parts) (n : ℕ) → among (0 �
 unfolding inputsFault
 inputs-refusal text header n = fault-number _ (inputs-numbered text [] _)
 
-record Without (s : Scope) : Type 0 where
-  out : List ℕ
-  is : s ≡ scope out
+-- no fault: the entries
+pub record Without (s : Scope) : Type 0 where
+  pub out : List ℕ
+  pub is : s ≡ scope out
 
-no-fault : (s : Scope) → Numbered s → faultOf s .refusal ≡ 0 → Without s
+pub no-fault : (s : Scope) → Numbered s → faultOf s .refusal ≡ 0 → Without s
 unfolding faultOf
 no-fault (scope es) n e = record { out = es; is = refl }
 no-fault (fault m a) n e =
@@ -198,7 +199,8 @@ not-same text e a es s v = go (sameAt text e a) refl
     go true q = not-both (visible text a es) v (s a q)
     go false q = q
 
-new-name : (text : List ℕ) (a : ℕ) (es out : List ℕ) → define text a es ≡ scope out → visible text a es ≡ false
+-- a name that is defined is new
+pub new-name : (text : List ℕ) (a : ℕ) (es out : List ℕ) → define text a es ≡ scope out → visible text a es ≡ false
 unfolding define
 new-name text a es out e = go (visible text a es) refl e
   where
