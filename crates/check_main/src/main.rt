@@ -2,6 +2,7 @@
 ghost use mathlib.Core.Path.{_≡_};
 ghost use Prim.Native.Nat.{_≤_};
 ghost use lib.ListN.{length};
+use limits::Limits;
 use streams::no_arguments;
 use streams::read_text;
 use streams::write_text;
@@ -22,7 +23,7 @@ fn run(text: &mut [u8], out: &mut [u8])
 
 fn main() {
     if no_arguments() {
-        let mut text = [0u8; 65537];
+        let mut text = [0u8; Limits::TEXT + 1];
         let mut out = [0u8; 71];
         run(&mut text, &mut out);
     }

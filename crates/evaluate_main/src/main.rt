@@ -3,6 +3,7 @@
 ghost use mathlib.Core.Path.{_≡_};
 ghost use Prim.Native.Nat.{_≤_};
 ghost use lib.ListN.{length};
+use limits::Limits;
 use program_output::print_output;
 use result_lines::Lines;
 use streams::no_arguments;
@@ -24,7 +25,7 @@ fn run(text: &mut [u8], out: &mut [u8])
 
 fn main() {
     if no_arguments() {
-        let mut text = [0u8; 65537];
+        let mut text = [0u8; Limits::TEXT + 1];
         let mut out = [0u8; Lines::MOST];
         run(&mut text, &mut out);
     }
