@@ -1,3 +1,4 @@
+pub mod AnswerLaw
 pub mod ClaimExample
 pub mod FillLaw
 pub mod FittedLaw
