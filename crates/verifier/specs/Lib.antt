@@ -1,0 +1,4 @@
+pub mod DefinedValues
+pub mod AttributeRules
+pub mod BodyForm
+pub mod Reasons
