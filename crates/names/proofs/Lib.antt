@@ -1,0 +1,3 @@
+pub mod SameLaw
+pub mod LikeLaw
+pub mod OwnLaw
