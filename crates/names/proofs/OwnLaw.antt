@@ -17,7 +17,7 @@ use Rattle.program.specs.Parts.{depthAfter}
 use Rattle.part_laws.proofs.DepthLaw.{outside}
 use Rattle.names.specs.InOrder.{ownPlaces, bodyReadings}
 
-not-T : (b : Bool) → T (not b) → b ≡ false
+pub not-T : (b : Bool) → T (not b) → b ≡ false
 not-T true t = absurd t
 not-T false t = refl
 
