@@ -1,0 +1,4 @@
+pub mod SameLaw
+pub mod LikeLaw
+pub mod OwnLaw
+pub mod OrderLaw
