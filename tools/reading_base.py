@@ -3,8 +3,8 @@
 
     tools/reading_base.py [--list] [--names] [ROOT ..]
 
-A root is CRATE.Module.name; without roots, those of the bench's answer and of the claim of demand 3. A definition is its signature, its clauses
-and its comment; lines that are blank or `use` are not counted. --list prints every definition reached, --names the names that are defined in more
+A root is CRATE.Module.name; without roots, those of the bench's answer and of the claim of demand 3. A definition is its signature and its
+clauses; comments, blank lines and `use` lines are not counted. --list prints every definition reached, --names the names that are defined in more
 than one module of specs/."""
 import re
 import sys
@@ -23,7 +23,7 @@ def crates_dir():
 class Definition:
     def __init__(self, module, name):
         self.module, self.name = module, name
-        self.text, self.lines = [], 0
+        self.text, self.lines, self.kind = [], 0, ""
 
 
 def strip(line):
@@ -72,16 +72,16 @@ def read_module(path, crate):
             if name not in definitions:
                 definitions[name] = Definition(module, name)
             current = definitions[name]
-            current.lines += comment
+            current.kind = "data" if re.search(r"\bdata\b", line.split(name)[0]) else ""
             comment = 0
         if current is None:
             continue
-        # a record's or a data type's own names
-        field = re.match(r"^\s+(?:pub )?([^\s:]+(?: [^\s:]+)*) : ", line)
-        if field and indent >= 2 and "=" not in line.split(":")[0]:
-            for n in field.group(1).split():
+        # the constructors of a data type
+        constructor = re.match(r"^\s+([^\s:]+(?: [^\s:]+)*) : ", line)
+        if constructor and indent >= 2 and current.kind == "data":
+            for n in constructor.group(1).split():
                 definitions.setdefault(n, current)
-        current.lines += 1 + comment
+        current.lines += 1
         comment = 0
         current.text.append(strip(line))
     return module, uses, definitions

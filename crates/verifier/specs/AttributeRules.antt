@@ -27,6 +27,13 @@ abbrev pub someOf : {A : Type 0} → (A → Bool) → List A → Bool
 someOf test [] = false
 someOf test (x ∷ xs) = test x || someOf test xs
 
+-- two lists of one length, whose items pass the test pair by pair
+abbrev pub pairwise : (ℕ → ℕ → Bool) → List ℕ → List ℕ → Bool
+pairwise test [] [] = true
+pairwise test [] (y ∷ ys) = false
+pairwise test (x ∷ xs) [] = false
+pairwise test (x ∷ xs) (y ∷ ys) = test x y && pairwise test xs ys
+
 -- the place in the op table of the attribute's name, of the first word of a choice, of a choice
 abbrev pub attributeNumber : List ℕ → AttributeText → ℕ
 attributeNumber text a = let at = firstToken (a .names) in findAttribute text at (tokenAt text at .end)

@@ -1,7 +1,7 @@
 -- 01, refusal 7: its seven reasons, in its order. An op is typed where none holds of it.
 -- Assumes nothing.
 use Prim.Native.Nat.{ℕ, suc}
-use mathlib.Core.List.{List, [], _∷_, _++_, map}
+use mathlib.Core.List.{List, [], _∷_, _++_}
 use mathlib.Core.Bool.{Bool, true, false, not, _&&_, _||_}
 use lib.Dec.{leb, eqb}
 use lib.ListN.{length, getD}
@@ -15,7 +15,7 @@ use Rattle.values.specs.Values.{noValue}
 use Rattle.optable.specs.Table.{Op, ops}
 use Rattle.optable.specs.Takes.{takes}
 use Rattle.source.specs.Source.{OpText, bodyFrom}
-use Rattle.verifier.specs.AttributeRules.{firstToken, someOf, missingAttribute, doubledAttribute, foreignAttribute, otherKind, unfitDense}
+use Rattle.verifier.specs.AttributeRules.{firstToken, pairwise, someOf, missingAttribute, doubledAttribute, foreignAttribute, otherKind, unfitDense}
 use Rattle.verifier.specs.BodyForm.{hasLength, ofBodyForm}
 
 -- the number of the value that a name stands for
@@ -30,15 +30,9 @@ wrongNumber least most results bodies op =
     || not (hasLength (op .bodies) bodies)
 
 -- 2. "a written operand type that isn't that of its definition": one for each operand
-abbrev pub typedAsDefined : List ℕ → List Value → List ℕ → List ℕ → Bool
-typedAsDefined text known [] [] = true
-typedAsDefined text known [] (t ∷ types) = false
-typedAsDefined text known (name ∷ names) [] = false
-typedAsDefined text known (name ∷ names) (t ∷ types) =
-    sameType (typeIn text t) (getD known (valueOfName text known name) noValue .ty) && typedAsDefined text known names types
-
 abbrev pub otherOperandType : List ℕ → List Value → OpText → Bool
-otherOperandType text known op = not (typedAsDefined text known (op .operands) (op .operandTypes))
+otherOperandType text known op =
+    not (pairwise (λ name t. sameType (typeIn text t) (getD known (valueOfName text known name) noValue .ty)) (op .operands) (op .operandTypes))
 
 -- 3. "an attribute missing, doubled, foreign to the op or of the wrong kind"
 abbrev pub wrongAttribute : List ℕ → List ℕ → List ℕ → OpText → Bool
@@ -70,14 +64,8 @@ abbrev pub wrongBody : List ℕ → OpText → Bool
 wrongBody text op = someOf (λ body. not (ofBodyForm text (bodyFrom body))) (op .bodies)
 
 -- 7. "return types that aren't the header's"
-abbrev pub sameTypesWritten : List ℕ → List ℕ → List ℕ → Bool
-sameTypesWritten text [] [] = true
-sameTypesWritten text [] (u ∷ us) = false
-sameTypesWritten text (t ∷ ts) [] = false
-sameTypesWritten text (t ∷ ts) (u ∷ us) = sameType (typeIn text t) (typeIn text u) && sameTypesWritten text ts us
-
 abbrev pub otherReturnTypes : List ℕ → List ℕ → OpText → Bool
-otherReturnTypes text outputs op = not (sameTypesWritten text (op .operandTypes) outputs)
+otherReturnTypes text outputs op = not (pairwise (λ t u. sameType (typeIn text t) (typeIn text u)) (op .operandTypes) outputs)
 
 -- none of them holds of an op with its row of the op table, the values `known` being defined before it
 unfoldable pub opTyped : List ℕ → Op → List Value → OpText → Bool
