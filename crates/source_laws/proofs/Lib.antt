@@ -1,2 +1,4 @@
 pub mod ListedLaw
 pub mod CutLaw
+pub mod OpCutLaw
+pub mod PiecesLaw
