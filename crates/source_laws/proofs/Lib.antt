@@ -2,3 +2,4 @@ pub mod ListedLaw
 pub mod CutLaw
 pub mod OpCutLaw
 pub mod PiecesLaw
+pub mod SameLaw

@@ -7,8 +7,8 @@ use lib.ListN.{length, getD}
 use Rattle.grammar.specs.Symbols.{FunctionName, InputName, InputType, OutputType, ResultName, OpName, FuncReturn, OperandName, OperandType, ResultType, BodyOpen, BodyLabel, ArgumentName, ArgumentType, BodyOpName, BodyReturn, AttributeName}
 use Rattle.syntax.specs.Readings.{Reading}
 use Rattle.program.specs.declared.Parts.{Parts}
-use Rattle.places.specs.Places.{opName, resultName, operandName, operandType, resultType, attributeName, bodyOpen, countOf, placeOf}
-use Rattle.source.specs.Source.{OpText}
+use Rattle.places.specs.Places.{opName, resultName, operandName, operandType, resultType, attributeName, bodyOpen, inputName, inputType, outputType, countOf, placeOf}
+use Rattle.source.specs.Source.{OpText, FunctionText}
 use Rattle.verifier.specs.AttributeRules.{firstToken}
 
 -- the roles of part k
@@ -52,3 +52,10 @@ pub record SameParts (op : Parts) (o : OpText) : Type 0 where
   pub resultTypes : PartWhole op resultType (o .resultTypes)
   pub attributes : PartListed op attributeName (map (λ a. firstToken (a .names)) (o .attributes))
   pub bodies : PartListed op bodyOpen (map firstPlace (o .bodies))
+
+-- a header by its parts and by the function's lists; a type for each input's name
+pub record SameHeader (header : Parts) (f : FunctionText) : Type 0 where
+  pub inputs : PartWhole header inputName (f .inputs)
+  pub inputTypes : PartWhole header inputType (f .inputTypes)
+  pub outputTypes : PartWhole header outputType (f .outputTypes)
+  pub even : length (f .inputTypes) ≡ length (f .inputs)
