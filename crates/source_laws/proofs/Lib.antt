@@ -3,3 +3,4 @@ pub mod CutLaw
 pub mod OpCutLaw
 pub mod PiecesLaw
 pub mod SameLaw
+pub mod HeaderLaw

@@ -117,22 +117,22 @@ parts-listed roles k level xs h o =
 
 -- ---- the roles of part k
 
-same-bool : Bool → Bool → Bool
-same-bool true b = b
-same-bool false b = not b
+unfoldable pub sameBool : Bool → Bool → Bool
+sameBool true b = b
+sameBool false b = not b
 
-same-equal : (a b : Bool) → T (same-bool a b) → a ≡ b
-unfolding same-bool
+pub same-equal : (a b : Bool) → T (sameBool a b) → a ≡ b
+unfolding sameBool
 same-equal true true t = refl
 same-equal true false t = absurd t
 same-equal false true t = absurd t
 same-equal false false t = refl
 
 roleTest : ℕ → ℕ → Bool
-roleTest k r = same-bool (among (partRoles k) r) (eqb (partOf r) k)
+roleTest k r = sameBool (among (partRoles k) r) (eqb (partOf r) k)
 
 low-role : (k r : ℕ) → k < 11 → r < leafCount → among (partRoles k) r ≡ eqb (partOf r) k
-unfolding partOf same-bool roleTest
+unfolding partOf sameBool roleTest
 low-role k r h g =
     let t : T (upTo leafCount (roleTest k)) = up-to 11 (λ i. upTo leafCount (roleTest i)) k tt h in
     same-equal (among (partRoles k) r) (eqb (partOf r) k) (up-to leafCount (roleTest k) r t g)
