@@ -1,0 +1,2 @@
+pub mod PieceLaw
+pub mod Examples

@@ -1,0 +1,13 @@
+pub mod Tests
+pub mod AlikeLaw
+pub mod TypesLaw
+pub mod IntsLaw
+pub mod SliceLaw
+pub mod PadLaw
+pub mod DimensionsLaw
+pub mod TransposeLaw
+pub mod ReduceLaw
+pub mod BroadcastLaw
+pub mod ReverseLaw
+pub mod DynamicLaw
+pub mod JoinLaw
