@@ -1,0 +1,3 @@
+pub mod TestsLaw
+pub mod TypedSameLaw
+pub mod ReturnSameLaw
