@@ -4,3 +4,4 @@ pub mod OpCutLaw
 pub mod PiecesLaw
 pub mod SameLaw
 pub mod HeaderLaw
+pub mod ValuesLaw
