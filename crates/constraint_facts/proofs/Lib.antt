@@ -1,0 +1,6 @@
+pub mod WordLaw
+pub mod TypeFactLaw
+pub mod AxisFactLaw
+pub mod SliceFactLaw
+pub mod ReduceFactLaw
+pub mod JoinFactLaw
