@@ -1,3 +1,5 @@
 pub mod TestsLaw
 pub mod TypedSameLaw
 pub mod ReturnSameLaw
+pub mod NamesSameLaw
+pub mod JoinLaw
