@@ -1,14 +1,13 @@
 -- Readings cut into pieces: nothing is lost, where each piece begins, and how a cut goes over readings that stand one after the other.
 -- Assumes nothing.
-use mathlib.Core.Path.{_≡_, refl, sym, ap, subst, _∙_}
-use mathlib.Core.List.{List, [], _∷_, _++_, map, append-assoc}
+use mathlib.Core.Path.{_≡_, refl, ap, _∙_}
+use mathlib.Core.List.{List, [], _∷_, _++_, map}
 use mathlib.Core.Bool.{Bool, true, false, not, _&&_, _||_}
-use Prim.Native.Nat.{ℕ, zero, suc, _+_}
+use Prim.Native.Nat.{ℕ}
 use native.Mathlib.Omega.{arith}
 use lib.Dec.{T, eqb}
 use borrow.Author.Tests.{eqb-true, eq-eqb}
 use Rattle.lists.specs.Lists.{pick, All, concat}
-use Rattle.scan.specs.Bytes.{among}
 use Rattle.grammar.specs.Symbols.{AttributeName}
 use Rattle.grammar.proofs.TableTest.{both, both-left, both-right, both-make}
 use Rattle.syntax.specs.Readings.{Reading}
@@ -16,7 +15,7 @@ use Rattle.syntax.specs.Roles.{rolesOf}
 use Rattle.program.specs.Parts.{depthAfter}
 use Rattle.reading_laws.proofs.DepthLaw.{depthThrough}
 use Rattle.verifier.specs.AttributeRules.{firstToken}
-use Rattle.source.specs.Source.{withRole, Cut, cutFrom, AttributeText, attributeFrom}
+use Rattle.source.specs.Source.{withRole, Cut, cutFrom, attributeFrom}
 use Rattle.source_laws.specs.Listed.{firstPlace}
 
 -- these readings before those of a cut

@@ -2,15 +2,14 @@
 -- Assumes nothing.
 use mathlib.Core.Path.{_≡_, refl, sym, ap, subst, _∙_}
 use mathlib.Core.List.{List, [], _∷_, _++_, map, append-assoc, append-nil}
-use mathlib.Core.Bool.{Bool, true, false, not, _&&_, _||_}
-use Prim.Native.Nat.{ℕ, zero, suc, _+_, _≤_, _<_, min}
+use mathlib.Core.Bool.{Bool, true, false, not, _&&_}
+use Prim.Native.Nat.{ℕ, zero, suc, _+_, _<_, min}
 use native.Mathlib.Omega.{arith}
-use lib.Dec.{T, eqb, eqb→eq, ltb}
-use lib.ListN.{length, getD}
+use lib.Dec.{T, eqb, ltb}
 use borrow.Author.Tests.{ne-eqb}
 use Rattle.lists.specs.Lists.{pick, All, concat}
 use Rattle.scan.specs.Bytes.{among as isAmong}
-use Rattle.grammar.specs.Symbols.{InputName, InputType, OutputType, ResultName, OpName, FuncReturn, OperandName, OperandType, ResultType, BodyOpen, AttributeName, SingleNumber, ListNumber, ChoiceKind, Choice, ElementLiteral, DenseOpen, DenseClose, DenseType, lparen, rparen, lbrace, rbrace, langle, rangle, comma, colon, equals, arrow, dialect, array, dense, i64, End, MoreResults, OpRest, Operands, MoreOperands, Middle, BodiesAfter, AttributesAfter, Body, MoreBodies, OperandTypes, MoreOperandTypes, ResultTypes, ResultTypeList, MoreResultTypes, Attributes, MoreAttributes, Value, Numbers, MoreNumbers, Dense, DenseItems, MoreItems, Op, NamedOp, among}
+use Rattle.grammar.specs.Symbols.{InputName, InputType, OutputType, ResultName, OpName, FuncReturn, rbrace, End, MoreResults, Op, NamedOp, among}
 use Rattle.grammar.specs.Grammar.{Production, grammar}
 use Rattle.grammar.specs.Derivation.{_∈_}
 use Rattle.grammar.specs.Leaves.{Yields}
@@ -26,15 +25,15 @@ use Rattle.program.specs.Parts.{partOf, noParts, depthAfter, partsFrom}
 use Rattle.program.specs.Program.{programOf}
 use Rattle.program.proofs.PlaceLaw.{headSet, head-closed}
 use Rattle.places.specs.Places.{inputName, inputType, outputType, countOf}
-use Rattle.source.specs.Source.{withRole, FunctionText, functionOf}
+use Rattle.source.specs.Source.{withRole, functionOf}
 use Rattle.reading_laws.proofs.CountLaw.{wide-none, flat, flat-count, ofPart, yields-even}
 use Rattle.reading_laws.proofs.DepthLaw.{depthThrough}
 use Rattle.reading_laws.proofs.OpsLaw.{outlined, at-places}
 use Rattle.part_laws.proofs.DepthLaw.{outside, keeps, yields-outside}
 use Rattle.part_laws.proofs.GrantedLaw.{header-granted}
-use Rattle.source_laws.specs.Listed.{PartListed, PartWhole, SameHeader}
+use Rattle.source_laws.specs.Listed.{PartListed, SameHeader}
 use Rattle.source_laws.proofs.ListedLaw.{OfPart, parts-listed, listed-whole, sameBool, same-equal}
-use Rattle.source_laws.proofs.OpCutLaw.{outside-closed}
+use Rattle.source_laws.proofs.OpCutLaw.{not-T, restSet, outside-closed}
 use Rattle.source_laws.proofs.PiecesLaw.{head-outside}
 
 -- ---- the tokens of some roles, one after the other
@@ -51,10 +50,6 @@ role-append roles level d (x ∷ xs) ys = go (eqb d level && isAmong roles (x .r
 -- no member of the set is one of the roles
 abbrev pub apartFrom : List ℕ → List ℕ → Bool
 apartFrom roles set = allPass (λ r. not (isAmong roles r)) set
-
-not-T : (b : Bool) → T (not b) → b ≡ false
-not-T true t = absurd t
-not-T false t = refl
 
 no-token : (roles set : List ℕ) (d r : ℕ) → T (apartFrom roles set) → T (or (ltb 0 d) (among set r)) → (eqb d 0 && isAmong roles r) ≡ false
 no-token roles set zero r f t = rw (not-T (isAmong roles r) (member-passes (λ n. not (isAmong roles n)) set r f t))
@@ -77,11 +72,7 @@ role-past roles set xs ys f t =
 -- ---- an op outside its bodies
 
 abbrev pub opSet : List ℕ
-opSet =
-    Op ∷ NamedOp ∷ MoreResults ∷ OpRest ∷ Operands ∷ MoreOperands ∷ Middle ∷ BodiesAfter ∷ AttributesAfter ∷ Body ∷ MoreBodies ∷ OperandTypes ∷ MoreOperandTypes ∷ ResultTypes ∷
-    ResultTypeList ∷ MoreResultTypes ∷ Attributes ∷ MoreAttributes ∷ Value ∷ Numbers ∷ MoreNumbers ∷ Dense ∷ DenseItems ∷ MoreItems ∷
-    ResultName ∷ OpName ∷ FuncReturn ∷ OperandName ∷ OperandType ∷ ResultType ∷ BodyOpen ∷ AttributeName ∷ SingleNumber ∷ ListNumber ∷ ChoiceKind ∷ Choice ∷ ElementLiteral ∷
-    DenseOpen ∷ DenseClose ∷ DenseType ∷ lparen ∷ rparen ∷ lbrace ∷ rbrace ∷ langle ∷ rangle ∷ comma ∷ colon ∷ equals ∷ arrow ∷ dialect ∷ array ∷ dense ∷ i64 ∷ []
+opSet = Op ∷ NamedOp ∷ MoreResults ∷ ResultName ∷ OpName ∷ FuncReturn ∷ restSet
 
 keeps-op : (p : Production) → p ∈ grammar → T (keeps opSet p)
 unfolding grammar depthAfter

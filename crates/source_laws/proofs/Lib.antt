@@ -5,3 +5,4 @@ pub mod PiecesLaw
 pub mod SameLaw
 pub mod HeaderLaw
 pub mod ValuesLaw
+pub mod OpItemsLaw

@@ -3,7 +3,7 @@
 use mathlib.Core.Path.{_≡_, refl, sym, ap, subst, _∙_}
 use mathlib.Core.List.{List, [], _∷_, _++_}
 use mathlib.Core.Bool.{Bool, true, false, not, _&&_, _||_}
-use Prim.Native.Nat.{ℕ, zero, suc, _+_, _≤_, _<_}
+use Prim.Native.Nat.{ℕ, zero, suc}
 use native.Mathlib.Omega.{arith}
 use lib.Dec.{T, eqb, eqb→eq, ltb, leb, leb→le}
 use borrow.Author.Tests.{ne-eqb}
@@ -15,7 +15,7 @@ use Rattle.grammar.specs.Leaves.{Yields, nothing, itself, right}
 use Rattle.grammar.proofs.TableTest.{both, both-left, both-right, both-make, implies, implied, or, or-cases}
 use Rattle.grammar.proofs.CellView.{rule-passes}
 use Rattle.grammar.proofs.Leaves.{leading}
-use Rattle.grammar.proofs.Within.{allIn, closedIn, yields-within, member-passes}
+use Rattle.grammar.proofs.Within.{allIn, member-passes}
 use Rattle.syntax.specs.Readings.{Reading, reading}
 use Rattle.syntax.specs.Roles.{rolesOf}
 use Rattle.syntax.specs.OpsAlone.{Naming, unnamed, results, OpParts}
@@ -52,7 +52,8 @@ module _ (set : List ℕ) (f : (p : Production) → p ∈ grammar → T (closedA
 
 -- ---- after its name, no op begins
 
-abbrev restSet : List ℕ
+-- the symbols of an op after its name, outside bodies
+abbrev pub restSet : List ℕ
 restSet =
     OpRest ∷ Operands ∷ MoreOperands ∷ Middle ∷ BodiesAfter ∷ AttributesAfter ∷ Body ∷ MoreBodies ∷ OperandTypes ∷ MoreOperandTypes ∷ ResultTypes ∷ ResultTypeList ∷ MoreResultTypes ∷
     Attributes ∷ MoreAttributes ∷ Value ∷ Numbers ∷ MoreNumbers ∷ Dense ∷ DenseItems ∷ MoreItems ∷
@@ -228,7 +229,7 @@ pub record OpRole (role : ℕ) : Type 0 where
   pub named : begins equals role ≡ false
   pub flat : depthAfter 0 role ≡ 0
 
-not-T : (b : Bool) → T (not b) → b ≡ false
+pub not-T : (b : Bool) → T (not b) → b ≡ false
 not-T true t = absurd t
 not-T false t = refl
 

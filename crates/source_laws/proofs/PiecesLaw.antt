@@ -2,18 +2,17 @@
 -- Assumes nothing.
 use mathlib.Core.Path.{_≡_, refl, sym, ap, subst, _∙_}
 use mathlib.Core.List.{List, [], _∷_, _++_, map, append-assoc, append-nil}
-use mathlib.Core.Bool.{Bool, true, false, not}
-use Prim.Native.Nat.{ℕ, zero, suc, _+_, _-_, _≤_, _<_}
+use mathlib.Core.Bool.{true}
+use Prim.Native.Nat.{ℕ, zero, suc, _-_, _<_}
 use native.Mathlib.Omega.{arith}
 use native.Mathlib.Nat.{not-suc-le-zero, le-of-suc-le-suc}
-use lib.Dec.{T, eqb, eqb→eq}
+use lib.Dec.{T}
 use lib.ListN.{length, getD, length-append, List·getD-append}
 use lib.Seq.{getD-append-seam}
-use Rattle.lists.specs.Lists.{pick, All, concat}
+use Rattle.lists.specs.Lists.{All, concat}
 use Rattle.grammar.specs.Symbols.{OpName, FuncReturn, rbrace, lbrace, End, Op, among}
 use Rattle.grammar.specs.Grammar.{Production, grammar}
 use Rattle.grammar.specs.Derivation.{_∈_}
-use Rattle.grammar.proofs.TableTest.{both, both-left, both-right, both-make}
 use Rattle.grammar.proofs.CellView.{rule-passes}
 use Rattle.grammar.proofs.Within.{member-passes}
 use Rattle.syntax.specs.Readings.{Reading, readingsOf, readings}
@@ -30,7 +29,7 @@ use Rattle.reading_laws.proofs.OpsLaw.{outlined, op-count, op-place, last-place
 use Rattle.part_laws.proofs.DepthLaw.{outside, keeps, yields-outside}
 use Rattle.source_laws.specs.Pieces.{opPieces, opPlace, PiecesAreOps}
 use Rattle.source_laws.proofs.CutLaw.{ahead, opened, lastRole, quiet, cut-quiet, cut-opened}
-use Rattle.source_laws.proofs.OpCutLaw.{within, outside-quiet, outside-closed, closedAtEnd, last-yields, free, OnePiece, OpRole, op-role, return-role, op-piece}
+use Rattle.source_laws.proofs.OpCutLaw.{within, outside-quiet, outside-closed, closedAtEnd, last-yields, free, OnePiece, op-role, return-role, op-piece}
 
 -- ---- an op
 

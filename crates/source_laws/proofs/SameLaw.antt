@@ -7,26 +7,24 @@ use Prim.Native.Nat.{ℕ, zero, suc, _+_, _-_, _≤_, _<_}
 use native.Mathlib.Omega.{arith}
 use native.Mathlib.Nat.{not-suc-le-zero, le-of-suc-le-suc}
 use native.Mathlib.Decide.{ℕ-discrete}
-use lib.Dec.{T, eqb, ltb}
+use lib.Dec.{eqb}
 use lib.ListN.{length, getD}
 use borrow.Author.Tests.{le-ltb}
 use Rattle.lists.specs.Lists.{pick, All}
-use Rattle.scan.specs.Bytes.{among}
-use Rattle.grammar.specs.Symbols.{AttributeName, BodyOpen, rbrace, End, Op}
-use Rattle.syntax.specs.Readings.{Reading, readings, readingsOf}
+use Rattle.grammar.specs.Symbols.{BodyOpen, rbrace, End, Op}
+use Rattle.syntax.specs.Readings.{Reading, readingsOf}
 use Rattle.syntax.specs.Roles.{rolesOf}
 use Rattle.judge.specs.Judge.{textRefusal}
 use Rattle.program.specs.declared.Parts.{Parts}
 use Rattle.program.specs.Parts.{partOf, noParts, noted, depthAfter, partsFrom, partsOf, partsAt, opAt}
 use Rattle.program.specs.Program.{programOf}
-use Rattle.places.specs.Places.{opName, resultName, operandName, operandType, resultType, attributeName, bodyOpen, countOf, placeOf}
-use Rattle.source.specs.Source.{withRole, OpText, opFrom, functionOf}
+use Rattle.places.specs.Places.{opName, resultName, operandName, operandType, resultType, attributeName, bodyOpen, countOf}
+use Rattle.source.specs.Source.{OpText, opFrom, functionOf}
 use Rattle.reading_laws.proofs.DepthLaw.{depthThrough}
 use Rattle.reading_laws.proofs.OpsLaw.{few-bytes}
-use Rattle.part_laws.specs.Granted.{OpGranted}
 use Rattle.part_laws.proofs.GrantedLaw.{op-granted}
-use Rattle.source_laws.specs.Listed.{PartListed, PartWhole, SameParts}
-use Rattle.source_laws.specs.Pieces.{opPieces, opPlace, PiecesAreOps}
+use Rattle.source_laws.specs.Listed.{PartListed, SameParts}
+use Rattle.source_laws.specs.Pieces.{opPieces, opPlace}
 use Rattle.source_laws.proofs.ListedLaw.{part-listed, listed-whole}
 use Rattle.source_laws.proofs.CutLaw.{cut-places, attribute-names}
 use Rattle.source_laws.proofs.PiecesLaw.{pieces-are-ops}

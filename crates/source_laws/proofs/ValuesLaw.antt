@@ -1,8 +1,8 @@
 -- The values that the code notes of a text that reading passes are those that the function's lists define.
 -- Assumes nothing.
-use mathlib.Core.Path.{_≡_, refl, sym, ap, subst, _∙_}
+use mathlib.Core.Path.{_≡_, refl, sym, ap, _∙_}
 use mathlib.Core.List.{List, [], _∷_, _++_, map, append-assoc, append-nil}
-use Prim.Native.Nat.{ℕ, zero, suc, _+_, _-_, _≤_, _<_, suc-le-suc, min}
+use Prim.Native.Nat.{ℕ, zero, suc, _+_, _-_, _≤_, _<_, suc-le-suc}
 use native.Mathlib.Nat.{not-suc-le-zero, le-of-suc-le-suc, zero-lt-suc, add-suc}
 use native.Mathlib.Omega.{arith}
 use lib.ListN.{length, getD, take}
@@ -10,20 +10,15 @@ use lib.Seq.{take-suc}
 use borrow.Author.Tests.{lt-ltb, le-ltb}
 use Rattle.judge.specs.Judge.{textRefusal}
 use Rattle.program.specs.declared.Program.{Program}
-use Rattle.program.specs.Parts.{opAt}
 use Rattle.program.specs.Program.{programOf}
-use Rattle.places.specs.Places.{resultName, resultType, inputName, inputType, placeOf, typeIn, typeOfPart}
+use Rattle.places.specs.Places.{typeOfPart}
 use Rattle.values.specs.declared.Value.{Value}
 use Rattle.values.specs.declared.Values.{Values}
 use Rattle.values.specs.Values.{noValue, inputValue, resultValue, inputsOf, opsOf, valueAt, valuesIn}
 use Rattle.values.proofs.ValuesLaw.{value-stands, count-few, list-long}
 use Rattle.source.specs.Source.{OpText, opFrom, FunctionText, functionOf}
-use Rattle.verifier.specs.AttributeRules.{firstToken}
 use Rattle.verifier.specs.DefinedValues.{valueWith, valuesWith, inputsDefined, resultDefined}
-use Rattle.reading_laws.specs.ReadProgram.{ReadProgram}
 use Rattle.reading_laws.proofs.OpsLaw.{read-program}
-use Rattle.source_laws.specs.Listed.{PartWhole, SameParts, SameHeader}
-use Rattle.source_laws.specs.Pieces.{opPlace}
 use Rattle.source_laws.specs.ListedValues.{SameValues}
 use Rattle.source_laws.proofs.SameLaw.{ops-count, same-parts}
 use Rattle.source_laws.proofs.HeaderLaw.{same-header}
