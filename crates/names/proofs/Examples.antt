@@ -2,8 +2,7 @@
 -- forgotten at its closing brace". Known names are given by their first bytes, the last one first.
 -- Assumes nothing.
 use mathlib.Core.Bool.{Bool, true}
-use mathlib.Core.List.{List, [], _∷_, _++_}
-use mathlib.Core.Path.{_≡_, refl}
+use mathlib.Core.List.{List, [], _∷_}
 use Prim.Native.Nat.{ℕ}
 use lib.Dec.{T, eqb}
 use Rattle.grammar.specs.Symbols.{leafKinds, matches, Op}
