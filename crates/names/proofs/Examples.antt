@@ -36,14 +36,15 @@ abbrev right : List Case → Bool
 right [] = true
 right (c ∷ cs) = both (both (eqb (c .found .refusal) (c .refusal)) (eqb (c .found .a) (c .a))) (right cs)
 
--- `%a` at byte 3 is defined before; two results with one name at 6, and an operand that is not defined
+-- `%a` at byte 3 is defined before. Three faults: an operand that is not defined at byte 25, a body's argument that is defined, two results with one name
 abbrev threeFaults : List ℕ
 threeFaults = ascii "   %a %c, %c = \"a.b\"(%a, %d) ({ ^b(%a: tensor<i8>): \"stablehlo.return\"() : () -> () }) : () -> ()"
 
--- the same with that operand left out, and with the body's argument renamed too
+-- the same without that operand
 abbrev twoFaults : List ℕ
 twoFaults = ascii "   %a %c, %c = \"a.b\"(%a) ({ ^b(%a: tensor<i8>): \"stablehlo.return\"() : () -> () }) : () -> ()"
 
+-- and with another name for the body's argument
 abbrev oneFault : List ℕ
 oneFault = ascii "   %a %c, %c = \"a.b\"(%a) ({ ^b(%c: tensor<i8>): \"stablehlo.return\"(%c) : () -> () }) : () -> ()"
 
