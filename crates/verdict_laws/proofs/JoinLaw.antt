@@ -9,7 +9,7 @@ use native.Mathlib.Nat.{not-suc-le-zero, le-of-suc-le-suc, zero-lt-suc}
 use native.Mathlib.Omega.{arith}
 use lib.Dec.{eqb, ltb}
 use lib.ListN.{length, getD, drop, take, length-append}
-use borrow.Author.Tests.{eqb-true, eq-eqb, ne-eqb, ltb-true}
+use borrow.Author.Tests.{eqb-true, eqb-false, eq-eqb, ne-eqb, ltb-true}
 use Rattle.lists.specs.Lists.{pick, tab}
 use Rattle.lists.proofs.TabLaw.{tab-getD, tab-cong}
 use Rattle.dimrules.specs.declared.TensorType.{TensorType}
@@ -47,8 +47,9 @@ use Rattle.verifier.specs.DefinedValues.{inputsDefined, resultDefined}
 use Rattle.verifier.specs.ConstraintRules.{checksWritten}
 use Rattle.verifier.specs.Verdict.{noOp, rowWritten, namesLastFirst, namesChecked, inTurn, opVerdict, returnVerdict, opsVerdict, functionVerdict, verdictOf}
 use Rattle.checks.specs.Check.{brokenNumber}
+use Rattle.reading_laws.proofs.OpsLaw.{few-bytes}
 use Rattle.source_laws.specs.Listed.{PartWhole, SameParts, SameHeader}
-use Rattle.source_laws.specs.OpPieces.{opPlace, opPieces, PiecesAreOps}
+use Rattle.source_laws.specs.Pieces.{opPlace, opPieces, PiecesAreOps}
 use Rattle.source_laws.specs.ListedValues.{SameValues}
 use Rattle.source_laws.proofs.PiecesLaw.{pieces-are-ops}
 use Rattle.source_laws.proofs.SameLaw.{ops-count, op-text, same-parts}
@@ -76,7 +77,7 @@ judged-turn false c k = refl
 turn-zero : (names : NameFault) (typed : Bool) (c k : ℕ) → pick (eqb (inTurn names typed c k .number) 0) accepted (inTurn names typed c k) ≡ inTurn names typed c k
 turn-zero names typed c k = by (eqb (names .refusal) 0) refl typed (eqb c 0)
   where
-    abbrev turn : Bool → Bool → Bool → Refusal
+    turn : Bool → Bool → Bool → Refusal
     turn a b d = pick a (pick b (pick d accepted (refuse 8 k c)) (refuse 7 k 0)) (refuse (names .refusal) (names .a) 0)
 
     by : (a : Bool) → eqb (names .refusal) 0 ≡ a → (b d : Bool) → pick (eqb (turn a b d .number) 0) accepted (turn a b d) ≡ turn a b d
@@ -84,6 +85,9 @@ turn-zero names typed c k = by (eqb (names .refusal) 0) refl typed (eqb c 0)
     by true e true false = refl
     by true e false d = refl
     by false e b d = rw e refl
+
+not-last : (a b : ℕ) → (a ≡ b → ⊥) → a ≤ b → a < b
+not-last a b n l = omega (arith, n)
 
 -- ---- rows
 
@@ -110,7 +114,7 @@ module _ (text : List ℕ) (read : textRefusal text .number ≡ 0) where
   o k = getD (f .ops) k (opFrom [])
 
   short : length text ≤ 65536
-  short = short-text text read
+  short = few-bytes text read
 
   same : (k : ℕ) → k < p .count → SameParts (op k) (o k)
   same k h = same-parts text read k h (opFrom [])
@@ -149,14 +153,35 @@ module _ (text : List ℕ) (read : textRefusal text .number ≡ 0) where
             rw (whole, piece) (closing-names text (map defined (namesLastFirst known)) (readingsOf Op text (opPlace text k)) (pieces .closing) (pieces .close))
         go false e =
             let pieces = pieces-are-ops text read in
-            let z : k + 1 < p .count = below-last e in
+            let z : k + 1 < p .count = not-last (k + 1) (p .count) (eqb-false (k + 1) (p .count) e) (omega arith) in
             rw (whole, pieces .each k z) refl
-          where
-            below-last : eqb (k + 1) (p .count) ≡ false → k + 1 < p .count
-            below-last e = not-last (k + 1) (p .count) e (omega arith)
 
     pub names-at : fault ≡ namesChecked text known (o k)
-    unfolding namesChecked
+    unfolding namesChecked opNamesFault opNamesRead
     names-at =
         names-same text short (vs .inputs + k) (opPlace text k) ∙ ap (λ (l : List ℕ). opNamesFault text (opPlace text k) l) (last-first (vs .list) known (vs .inputs + k) before)
         ∙ ap (λ (c : Checked). checkedFault (thenChecked c (settled text))) (sym tokens-read)
+
+    -- ---- 7 and 8, where no name is refused
+
+    module _ (passed : fault .refusal ≡ 0) where
+      defined-before : (j : ℕ) → j < length (o k .operands) → valueNamed text (vs .list) (vs .inputs + k) (getD (o k .operands) j 0) < vs .inputs + k
+      defined-before j l =
+          let s = same k h in
+          let few = s .operands .few in
+          let z : placeOf (op k) operandName j ≡ getD (o k .operands) j 0 = s .operands .place j (omega arith) in
+          let d = operand-before text read k h passed j (rw (s .operands .count) l) in
+          rw z at d
+
+      pub return-typed : typedReturn text (op k) (p .header) (vs .list) (vs .inputs + k) ≡ returnTyped text (f .outputTypes) known (o k)
+      return-typed =
+          return-same text (op k) (o k) (same k h) (p .header) (f .outputTypes) (same-header text read .outputTypes) (vs .list) known (vs .inputs + k) before defined-before
+
+      module _ (inside : k + 1 < p .count)
+          (fit : attributesFit text (op k) (rowOf text (op k)) ≡ not (wrongAttribute text (rowWritten text (o k) .required) (rowWritten text (o k) .optional) (o k)) && not (wrongDense text (o k)))
+          (formed : rowWritten text (o k) .body ≡ true → length (o k .bodies) ≡ 1 → bodyFits text (placeOf (op k) bodyOpen 0) ≡ ofBodyForm text (bodyFrom (getD (o k .bodies) 0 []))) where
+        pub op-typed : typedOp text (op k) (rowOf text (op k)) (vs .list) (vs .inputs + k) ≡ opTyped text (rowWritten text (o k)) known (o k)
+        op-typed =
+            let r = row-same k inside in
+            rw (r .1)
+            (typed-same text (op k) (o k) (same k h) (rowWritten text (o k)) (r .0) formed (vs .list) known (vs .inputs + k) before defined-before (known-op text read k inside) (rw (r .1) at fit))
