@@ -7,7 +7,7 @@ use Prim.Native.Nat.{ℕ, zero, suc, _+_, _*_, _-_, _/_, _%_, _^_, _≤_, _<_}
 use native.Mathlib.Nat.{mul-mod-left, mul-div-cancel, div-add-mod'}
 use native.Mathlib.Numerals.{add-one}
 use native.Mathlib.Omega.{arith}
-use lib.ListN.{length}
+use lib.ListN.{length, getD}
 use lib.IntN.{ℤ, pos, negsuc, _+ℤ_, _-ℤ_, _*ℤ_, +ℤ-comm, +ℤ-negℤ-cancel, -ℤ-+ℤ-cancel}
 use lib.Dec.{eqb}
 use borrow.Author.Tests.{lt-ltb, le-ltb, eq-eqb, eqb-true}
@@ -72,15 +72,15 @@ found-pad low interior n x o e h =
 -- ---- 000: "result[result_index] is operand[operand_index] if result_index = edge_padding_low + operand_index * (interior_padding + 1),
 -- padding_value otherwise"
 
-abbrev pub PadIndex : List ℕ → List ℕ → List ℕ → List ℕ → Type 0
-PadIndex low interior i j = (d : ℕ) → d < length j → pos (at i d) ≡ numberOf (at low d) +ℤ pos (at j d) *ℤ (pos (at interior d) +ℤ pos 1)
+abbrev pub PadIndex : List ℤ → List ℕ → List ℕ → List ℕ → Type 0
+PadIndex low interior i j = (d : ℕ) → d < length j → pos (at i d) ≡ getD low d (pos 0) +ℤ pos (at j d) *ℤ (pos (at interior d) +ℤ pos 1)
 
-module _ (low interior from to x : List ℕ) (z : ℕ) (i : List ℕ) (w : ℕ) (o : IndexOf to i) where
+module _ (low : List ℤ) (interior from to x : List ℕ) (z : ℕ) (i : List ℕ) (w : ℕ) (o : IndexOf to i) where
   pub pad-operand : (j : List ℕ) → IndexOf from j → PadIndex low interior i j → elementAt (padded low interior from to x z) to i w ≡ elementAt x from j z
   pad-operand j p e =
       gathered-at (padIndex low interior from) from to x z i w o
       ∙ ap (λ (k : List ℕ). elementAt x from k z)
-      (index-is (length from) (padIndex low interior from (at i)) j (p .rank) (λ d h. pad-found (numberOf (at low d)) (at interior d) (at from d) (at i d) (at j d) (e d (omega (arith, p .rank)))))
+      (index-is (length from) (padIndex low interior from (at i)) j (p .rank) (λ d h. pad-found (getD low d (pos 0)) (at interior d) (at from d) (at i d) (at j d) (e d (omega (arith, p .rank)))))
 
   pub pad-otherwise : ((j : List ℕ) → IndexOf from j → PadIndex low interior i j → ⊥) → elementAt (padded low interior from to x z) to i w ≡ z
   pad-otherwise none =
@@ -92,4 +92,4 @@ module _ (low interior from to x : List ℕ) (z : ℕ) (i : List ℕ) (w : ℕ) 
       none (tab (length from) (padIndex low interior from (at i))) p
       (λ d h.
       let l : d < length from = omega (arith, p .rank) in
-      rw (getD-tab (length from) (padIndex low interior from (at i)) d 0 l) (found-pad (numberOf (at low d)) (at interior d) (at from d) (at i d) (padIndex low interior from (at i) d) refl (below d l))))
+      rw (getD-tab (length from) (padIndex low interior from (at i)) d 0 l) (found-pad (getD low d (pos 0)) (at interior d) (at from d) (at i d) (padIndex low interior from (at i) d) refl (below d l))))

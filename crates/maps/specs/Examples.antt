@@ -2,6 +2,7 @@
 -- Assumes nothing.
 use mathlib.Core.Path.{_≡_, refl}
 use mathlib.Core.List.{[], _∷_}
+use lib.IntN.{pos}
 use Rattle.lists.specs.Lists.{firstWhere}
 use Rattle.element.specs.Types.{valueOf, wrapTo}
 use Rattle.element.specs.declared.ElementType.the-variants.{I32, I64, U64}
@@ -32,7 +33,7 @@ pub reverse-example : reversed (1 ∷ []) (3 ∷ 2 ∷ []) (1 ∷ 2 ∷ 3 ∷ 4 
 unfolding firstWhere
 reverse-example = refl
 
-pub pad-example : padded (0 ∷ 1 ∷ []) (1 ∷ 2 ∷ []) (2 ∷ 3 ∷ []) (5 ∷ 9 ∷ []) (1 ∷ 2 ∷ 3 ∷ 4 ∷ 5 ∷ 6 ∷ []) 0
+pub pad-example : padded (pos 0 ∷ pos 1 ∷ []) (1 ∷ 2 ∷ []) (2 ∷ 3 ∷ []) (5 ∷ 9 ∷ []) (1 ∷ 2 ∷ 3 ∷ 4 ∷ 5 ∷ 6 ∷ []) 0
     ≡ 0 ∷ 1 ∷ 0 ∷ 0 ∷ 2 ∷ 0 ∷ 0 ∷ 3 ∷ 0 ∷
     0 ∷ 0 ∷ 0 ∷ 0 ∷ 0 ∷ 0 ∷ 0 ∷ 0 ∷ 0 ∷
     0 ∷ 4 ∷ 0 ∷ 0 ∷ 5 ∷ 0 ∷ 0 ∷ 6 ∷ 0 ∷

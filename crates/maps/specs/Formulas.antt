@@ -1,10 +1,10 @@
 -- The ops that take each element of the result from an index of the operand, by 000's formulas (01, "Shape by shape").
--- Attribute numbers are 64-bit patterns: where a constraint keeps a number from being negative the pattern is the number, else it is read by numberOf.
+-- Attribute numbers are whole numbers: in ℕ where a constraint says 0 <= .., else, of edge_padding_low, in ℤ.
 -- Assumes nothing.
 use mathlib.Core.List.{List}
 use mathlib.Core.Bool.{true}
 use Prim.Native.Nat.{ℕ, _+_, _*_, _-_, _/_, _%_, min}
-use lib.ListN.{length}
+use lib.ListN.{length, getD}
 use lib.Dec.{ltb, eqb}
 use lib.IntN.{ℤ, pos, negsuc, _-ℤ_}
 use Rattle.lists.specs.Lists.{pick, tab}
@@ -68,11 +68,11 @@ padStep interior n (negsuc t) = n
 abbrev pub padCoord : ℤ → ℕ → ℕ → ℕ → ℕ
 padCoord low interior n x = padStep interior n (pos x -ℤ low)
 
-abbrev pub padIndex : List ℕ → List ℕ → List ℕ → (ℕ → ℕ) → ℕ → ℕ
-padIndex low interior from i d = padCoord (numberOf (at low d)) (at interior d) (at from d) (i d)
+abbrev pub padIndex : List ℤ → List ℕ → List ℕ → (ℕ → ℕ) → ℕ → ℕ
+padIndex low interior from i d = padCoord (getD low d (pos 0)) (at interior d) (at from d) (i d)
 
 -- "padding_value otherwise": z
-abbrev pub padded : List ℕ → List ℕ → List ℕ → List ℕ → List ℕ → ℕ → List ℕ
+abbrev pub padded : List ℤ → List ℕ → List ℕ → List ℕ → List ℕ → ℕ → List ℕ
 padded low interior from to x z = gathered (padIndex low interior from) from to x z
 
 -- clamp(0, start, limit)

@@ -1,4 +1,4 @@
--- The formulas of the five ops that one loop serves, by the code's Map.
+-- The formulas of the five ops that one loop serves, by the code's Map: its arrays hold attribute numbers as 64-bit patterns.
 -- Assumes nothing.
 use mathlib.Core.List.{List}
 use Prim.Native.Nat.{ℕ, _^_, _≤_, _<_}

@@ -1,5 +1,6 @@
 // The ops that move elements: each fills exactly the stretch of its result (01, "Shape by shape").
 ghost use mathlib.Core.Path.{_≡_};
+ghost use mathlib.Core.List.{map};
 ghost use Prim.Native.Nat.{_^_, _≤_, _<_};
 ghost use lib.ListN.{length, take};
 ghost use Rattle.element.specs.Types.{valueOf, wrapTo};
@@ -238,7 +239,7 @@ pub fn pad(
     out: &mut [u64],
 )
     requires { ⌜ Stretches from to (now x) (now out) × PadHolds (take (from .rank) interior) (dimsOf from) (dimsOf to) ⌝ }
-    ensures { λ _. ⌜ now (out .exit) ≡ padded (take (from .rank) low) (take (from .rank) interior) (dimsOf from) (dimsOf to) (now (x .entry)) z ⌝ }
+    ensures { λ _. ⌜ now (out .exit) ≡ padded (map numberOf (take (from .rank) low)) (take (from .rank) interior) (dimsOf from) (dimsOf to) (now (x .entry)) z ⌝ }
 {
     let m = Map {
         kind: Kind::Pad,

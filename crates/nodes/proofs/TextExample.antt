@@ -3,6 +3,7 @@
 use mathlib.Core.Path.{_≡_, refl}
 use mathlib.Core.List.{List, [], _∷_, map}
 use Prim.Native.Nat.{ℕ}
+use lib.IntN.{pos}
 use Rattle.scan.specs.Ascii.{ascii}
 use Rattle.scalar.specs.declared.Body.the-variants.{Or}
 use Rattle.ops.specs.declared.Kind.the-variants.{Constant, Reduce}
@@ -63,7 +64,7 @@ computed :
     × (map (λ o. o .kind) (nodesOf sample .ops) ≡ Constant ∷ Reduce Or ∷ [])
     × (map (λ o. o .operands) (nodesOf sample .ops) ≡ [] ∷ (0 ∷ 1 ∷ []) ∷ [])
     × (map (λ o. o .values) (nodesOf sample .ops) ≡ (0 ∷ []) ∷ [] ∷ [])
-    × (map (λ o. o .first) (nodesOf sample .ops) ≡ [] ∷ (0 ∷ []) ∷ [])
+    × (map (λ o. o .attributes .dimensions) (nodesOf sample .ops) ≡ [] ∷ (pos 0 ∷ []) ∷ [])
     × (nodesOf sample .returns ≡ 2 ∷ [])
     -- 5 at `%z`: "op by op names (5, 6), 7, 8"
     × (verdict full ≡ refuse 5 73 0)

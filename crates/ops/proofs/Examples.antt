@@ -7,6 +7,7 @@ use mathlib.Core.Option.{none, some}
 use Prim.Native.Nat.{ℕ, zero, suc, _+_}
 use native.Mathlib.Omega.{arith}
 use lib.ListN.{getD, getElem?}
+use lib.IntN.{ℤ, pos}
 use Rattle.run.specs.Run.{Scoped}
 use Rattle.run.specs.Ways.{languageOf, OrderFree}
 use Rattle.element.proofs.Ends.{zero-value}
@@ -26,6 +27,7 @@ use Rattle.division.specs.declared.Division.the-variants.{Divide}
 use Rattle.scalar.specs.Ops.{addOf}
 use Rattle.scalar.specs.declared.Binary.the-variants.{Add as Plus}
 use Rattle.scalar.specs.declared.Body.the-variants.{Add}
+use Rattle.ops.specs.OpAttributes.{attributesBy}
 use Rattle.ops.specs.declared.Kind.{Kind}
 use Rattle.ops.specs.declared.Kind.the-variants.{Constant, Pairwise, Quotient, Reduce}
 use Rattle.ops.specs.Ops.{TensorType, Node, elementOf, hlo}
@@ -33,9 +35,9 @@ use Rattle.ops.specs.Ops.{TensorType, Node, elementOf, hlo}
 abbrev i32 : List ℕ → TensorType
 i32 dims = record { element = I32; dims = dims }
 
-abbrev op : Kind → List ℕ → List (List ℕ) → List ℕ → List ℕ → List ℕ → Node
-op kind dims from first values operands =
-    record { kind = kind; result = i32 dims; from = types from; first = first; second = []; values = values; operands = operands }
+abbrev op : Kind → List ℕ → List (List ℕ) → List ℤ → List ℕ → List ℕ → Node
+op kind dims from dimensions values operands =
+    record { kind = kind; result = i32 dims; from = types from; attributes = attributesBy kind dimensions []; values = values; operands = operands }
   where
     types : List (List ℕ) → List TensorType
     types [] = []
@@ -54,7 +56,7 @@ abbrev op2 : Node
 op2 = op (Quotient Divide) square (square ∷ square ∷ []) [] [] (3 ∷ 1 ∷ [])
 
 abbrev op3 : Node
-op3 = op (Reduce Add) (2 ∷ []) (square ∷ [] ∷ []) (1 ∷ []) [] (4 ∷ 2 ∷ [])
+op3 = op (Reduce Add) (2 ∷ []) (square ∷ [] ∷ []) (pos 1 ∷ []) [] (4 ∷ 2 ∷ [])
 
 abbrev sums : Program Node
 sums =

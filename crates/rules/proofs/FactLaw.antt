@@ -106,13 +106,13 @@ pub order-true : (s l n : ℕ) → inOrder s l n ≡ true → (s ≤ l) × (l �
 unfolding inOrder
 order-true s l n e = order-from s l n (ltb s (2 ^ 63)) (ltb l (2 ^ 63)) e
 
-positive-from : (w : ℕ) (a : Bool) → ltZ (pos 0) (pick a (pos w) (negsuc (2 ^ 64 - 1 - w))) ≡ true → 0 < w
-positive-from w true e = ltb-true 0 w e
-positive-from w false e = absurd (false≢true e)
+positive-from : (w : ℕ) (a : Bool) → ltb w (2 ^ 63) ≡ a → ltZ (pos 0) (pick a (pos w) (negsuc (2 ^ 64 - 1 - w))) ≡ true → (0 < w) × (w < 2 ^ 63)
+positive-from w true q e = (ltb-true 0 w e, ltb-true w (2 ^ 63) q)
+positive-from w false q e = absurd (false≢true e)
 
-pub positive-true : (w : ℕ) → positive w ≡ true → 0 < w
+pub positive-true : (w : ℕ) → positive w ≡ true → (0 < w) × (w < 2 ^ 63)
 unfolding positive
-positive-true w e = positive-from w (ltb w (2 ^ 63)) e
+positive-true w e = positive-from w (ltb w (2 ^ 63)) refl e
 
 pub ceiling-true : (s l stride m : ℕ) → ceilingIs s l stride m ≡ true → m ≡ ceilDiv (l - s) stride
 unfolding ceilingIs
@@ -271,7 +271,8 @@ slice-law x start limit strides r e =
       counts = counts start limit strides n (h .1 .0);
       rank = eqb-true (r .shape .rank) n (w .0);
       order = λ d l. order-true (num start d) (num limit d) (dim (x .shape) d) (holds-at n (dimTest InOrder s) (h .1 .1 .0) d l);
-      positive = λ d l. positive-true (num strides d) (holds-at n (dimTest Positive s) (h .1 .1 .1 .0) d l);
+      positive = λ d l. positive-true (num strides d) (holds-at n (dimTest Positive s) (h .1 .1 .1 .0) d l) .0;
+      small = λ d l. positive-true (num strides d) (holds-at n (dimTest Positive s) (h .1 .1 .1 .0) d l) .1;
       sizes = λ d l. ceiling-true (num start d) (num limit d) (num strides d) (dim (r .shape) d) (holds-at n (dimTest Ceiling s) (w .1) d l);
     }
 

@@ -76,6 +76,7 @@ pub record SliceHolds (x : TensorType) (start limit strides : Numbers) (r : Tens
   pub rank : r .shape .rank ≡ x .shape .rank
   pub order : (d : ℕ) → d < x .shape .rank → (num start d ≤ num limit d) × (num limit d ≤ dim (x .shape) d)
   pub positive : (d : ℕ) → d < x .shape .rank → 0 < num strides d
+  pub small : (d : ℕ) → d < x .shape .rank → num strides d < 2 ^ 63
   pub sizes : (d : ℕ) → d < x .shape .rank → dim (r .shape) d ≡ ceilDiv (num limit d - num start d) (num strides d)
 
 pub record PadHolds (x paddingValue : TensorType) (low high interior : Numbers) (r : TensorType) : Type 0 where
