@@ -9,7 +9,7 @@ use Rattle.run.specs.Run.{Out}
 use Rattle.run.specs.Ways.{byFold}
 use Rattle.shape.specs.Index.{at}
 use Rattle.shape.specs.Dims.{dimsOf, Sized, Fills}
-use Rattle.maps.specs.Holds.{Stretches, ReshapeHolds, SliceHolds, PadHolds, DynamicSliceHolds, IotaHolds}
+use Rattle.maps.specs.Holds.{Stretches, ReshapeHolds, TransposeHolds, SliceHolds, PadHolds, DynamicSliceHolds, IotaHolds}
 use Rattle.reduction.specs.Rows.{Stretches as ReduceStretches}
 use Rattle.elementwise.specs.Elementwise.{Tensor, Sized as TwoSized, SelectSized, ClampSized}
 use Rattle.ops.specs.declared.Move.{Move}
@@ -59,7 +59,9 @@ outcome k kind starts x y z = byFold hlo (wayOf (nodeOf k) kind (tensorsOf k kin
 abbrev pub MoveReady : Task → Move → Tensor → List ℕ → Type 0
 MoveReady k Reshape x out = Stretches (k .from) (k .to) x out × ReshapeHolds (dimsOf (k .from)) (dimsOf (k .to))
 MoveReady k BroadcastInDim x out = Stretches (k .from) (k .to) x out × (k .count ≡ k .from .rank)
-MoveReady k Transpose x out = Stretches (k .from) (k .to) x out × (k .count ≡ k .from .rank)
+MoveReady k Transpose x out =
+    Stretches (k .from) (k .to) x out × (k .count ≡ k .from .rank)
+    × TransposeHolds (take (k .from .rank) (k .first)) (dimsOf (k .from)) (dimsOf (k .to))
 MoveReady k Slice x out =
     Stretches (k .from) (k .to) x out × (k .count ≡ k .from .rank)
     × SliceHolds (take (k .from .rank) (k .first)) (take (k .from .rank) (k .limit)) (take (k .from .rank) (k .second)) (dimsOf (k .from)) (dimsOf (k .to))

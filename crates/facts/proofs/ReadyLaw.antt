@@ -7,7 +7,7 @@ use lib.ListN.{length, take}
 use lib.Dec.{eqb}
 use Rattle.shape.specs.Index.{at}
 use Rattle.shape.specs.Dims.{dimsOf, Fills}
-use Rattle.maps.specs.Holds.{Stretches, SliceHolds, PadHolds, DynamicSliceHolds, IotaHolds}
+use Rattle.maps.specs.Holds.{Stretches, TransposeHolds, SliceHolds, PadHolds, DynamicSliceHolds, IotaHolds}
 use Rattle.elementwise.specs.Elementwise.{Tensor, spreadSize, Sized as TwoSized}
 use Rattle.ops.specs.declared.Move.{Move}
 use Rattle.ops.specs.declared.Move.the-variants.{Reshape, BroadcastInDim, Transpose, Slice, Reverse}
@@ -23,6 +23,7 @@ use Rattle.opcheck.specs.declared.Operation.{Operation}
 use Rattle.opcheck.specs.Accepted.{Granted}
 use Rattle.facts.specs.Facts.{ShapeRead, Shaped, moveRule, AcceptedAs, taskOf, DoneByTask, Stretched}
 use Rattle.facts.proofs.BridgeLaw.{rank-is, below-rank, first-of, lone}
+use Rattle.facts.proofs.HoldsLaw.{transpose-holds}
 use Rattle.facts.proofs.AlikeLaw.{AsResult, SpreadTo, result-alike, alike-result, same-sizes, compare-sizes, select-sizes, clamp-sizes, unary-alike}
 
 module _ (x : TensorType) (r : TensorType) (p : ShapeRead (x .shape)) (q : ShapeRead (r .shape)) where
@@ -81,7 +82,13 @@ module _ (o : Operation) (h : Shaped o) (x y z out : Tensor) (f : Stretched o x 
   move-ready : (m : Move) → 0 < o .arity → Granted (moveRule m) o → MoveReady (taskOf (Moved m) o) m x out
   move-ready Reshape l g = (stretches l, record { sizes = g .sizes })
   move-ready BroadcastInDim l g = (stretches l, g .count)
-  move-ready Transpose l g = (stretches l, g .count)
+  move-ready Transpose l g =
+      let x = typeAt (o .types) 0 in (
+        stretches l,
+        g .count,
+        first-of (λ p. TransposeHolds p (dimsOf (x .shape)) (dimsOf (o .result .shape))) (o .a) (g .count)
+            (transpose-holds x (o .a) (o .result) (h .types 0 (omega arith)) (h .a) (h .result) g),
+      )
   move-ready Slice l g =
       (stretches l, g .counts .0, slice-holds (typeAt (o .types) 0) (o .result) (h .types 0 (omega arith)) (h .result) (o .a) (o .b) (o .c) g)
   move-ready Reverse l g = (

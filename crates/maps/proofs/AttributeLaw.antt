@@ -7,7 +7,8 @@ use native.Mathlib.Omega.{arith}
 use lib.ListN.{length, take, length-take}
 use lib.Seq.{getD-take}
 use Rattle.shape.specs.Index.{at}
-use Rattle.maps.specs.Formulas.{numberOf, padCoord, broadcastCoord, broadcastIndex, sliceIndex, padIndex, broadcasted, sliced, padded}
+use Rattle.shape.specs.Whole.{numberOf}
+use Rattle.maps.specs.Formulas.{padCoord, broadcastCoord, broadcastIndex, sliceIndex, padIndex, broadcasted, sliced, padded}
 use Rattle.maps.proofs.GatherLaw.{gathered-cong}
 
 -- the list of a shape's dimensions is at most as long as its rank

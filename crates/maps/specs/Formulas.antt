@@ -1,5 +1,5 @@
 -- The ops that take each element of the result from an index of the operand, by 000's formulas (01, "Shape by shape").
--- Attribute numbers are 64-bit patterns: where a constraint keeps a number from being negative the pattern is the number, else it is read by numberOf.
+-- Attribute numbers are 64-bit patterns (shape, Whole): where a constraint keeps a number from being negative the pattern is the number, else it is read by numberOf.
 -- Assumes nothing.
 use mathlib.Core.List.{List}
 use mathlib.Core.Bool.{true}
@@ -8,14 +8,11 @@ use lib.ListN.{length}
 use lib.Dec.{ltb, eqb}
 use lib.IntN.{ℤ, pos, negsuc, _-ℤ_}
 use Rattle.lists.specs.Lists.{pick, tab}
-use Rattle.element.specs.Types.{read, valueOf, wrapTo}
+use Rattle.element.specs.Types.{valueOf, wrapTo}
 use Rattle.element.specs.declared.ElementType.{ElementType}
 use Rattle.shape.specs.Index.{at, ravel, unravel, tabulate, elementAt}
 use Rattle.shape.specs.Place.{placeIn}
-
--- "An attribute number lies in the signed 64-bit range" (01, "Sizes", 7)
-abbrev pub numberOf : ℕ → ℤ
-numberOf w = read true 64 w
+use Rattle.shape.specs.Whole.{numberOf}
 
 -- "result[result_index] = operand[operand_index]", operand_index[d] by a formula of result_index and d; z where that is no index of the operand
 abbrev pub gathered : ((ℕ → ℕ) → ℕ → ℕ) → List ℕ → List ℕ → List ℕ → ℕ → List ℕ
