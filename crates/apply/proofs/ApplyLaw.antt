@@ -19,7 +19,8 @@ use Rattle.scalar.specs.declared.Direction.{Direction}
 use Rattle.scalar.specs.declared.Body.{Body}
 use Rattle.shape.specs.Index.{at, size}
 use Rattle.shape.specs.Dims.{dimsOf, Sized}
-use Rattle.maps.specs.Formulas.{numberOf, counted, broadcasted, transposed, sliced, reversed, padded, dynamicSliced}
+use Rattle.shape.specs.Whole.{numberOf}
+use Rattle.maps.specs.Formulas.{counted, broadcasted, transposed, sliced, reversed, padded, dynamicSliced}
 use Rattle.maps.proofs.AttributeLaw.{dims-le, numbers-at}
 use Rattle.maps.specs.Holds.{IotaHolds}
 use Rattle.reduction.specs.Rows.{reduced}

@@ -11,8 +11,8 @@ use Rattle.run.specs.Run.{Out}
 use Rattle.run.specs.Ways.{byFold}
 use Rattle.shape.specs.Index.{at}
 use Rattle.shape.specs.Dims.{dimsOf, Sized, Fills}
-use Rattle.maps.specs.Formulas.{numberOf}
-use Rattle.maps.specs.Holds.{Stretches, ReshapeHolds, SliceHolds, PadHolds, DynamicSliceHolds, IotaHolds}
+use Rattle.shape.specs.Whole.{numberOf}
+use Rattle.maps.specs.Holds.{Stretches, ReshapeHolds, TransposeHolds, SliceHolds, PadHolds, DynamicSliceHolds, IotaHolds}
 use Rattle.reduction.specs.Rows.{Stretches as ReduceStretches}
 use Rattle.elementwise.specs.Elementwise.{Tensor, Sized as TwoSized, SelectSized, ClampSized}
 use Rattle.ops.specs.declared.Move.{Move}
@@ -70,7 +70,9 @@ AreNatural n l = All (λ w. w < 2 ^ 63) (take n l)
 abbrev pub MoveReady : Task → Move → Tensor → List ℕ → Type 0
 MoveReady k Reshape x out = Stretches (k .from) (k .to) x out × ReshapeHolds (dimsOf (k .from)) (dimsOf (k .to))
 MoveReady k BroadcastInDim x out = Stretches (k .from) (k .to) x out × (k .count ≡ k .from .rank) × AreNatural (k .count) (k .first)
-MoveReady k Transpose x out = Stretches (k .from) (k .to) x out × (k .count ≡ k .from .rank) × AreNatural (k .count) (k .first)
+MoveReady k Transpose x out =
+    Stretches (k .from) (k .to) x out × (k .count ≡ k .from .rank)
+    × TransposeHolds (take (k .from .rank) (k .first)) (dimsOf (k .from)) (dimsOf (k .to)) × AreNatural (k .count) (k .first)
 MoveReady k Slice x out =
     Stretches (k .from) (k .to) x out × (k .count ≡ k .from .rank)
     × SliceHolds (take (k .from .rank) (k .first)) (take (k .from .rank) (k .limit)) (take (k .from .rank) (k .second)) (dimsOf (k .from)) (dimsOf (k .to))

@@ -140,5 +140,5 @@ node-granted (Reduce body) o a vs os c =
       operand-of (Reduce body) o vs os 0 (omega arith) (g .element),
       single-operand (Reduce body) o vs os 1 l h (sym (g .start) ∙ g .element) (a .scalars refl 1 (omega arith) l),
       reduce-shape (Reduce body) o vs os (omega arith) (natural-below (o .a) (h .a) (typeAt (o .types) 0 .shape) (h .types 0 (omega arith)) (g .listed .below))
-          (reduce-holds (o .a) (h .a) (typeAt (o .types) 0) (typeAt (o .types) 1) (o .left) (o .right) (o .result) (h .types 0 (omega arith)) (h .result) g),
+          (reduce-holds (o .a) (typeAt (o .types) 0) (typeAt (o .types) 1) (o .left) (o .right) (o .result) (h .types 0 (omega arith)) (h .result) g),
     )

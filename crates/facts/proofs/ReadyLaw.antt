@@ -8,7 +8,7 @@ use lib.Dec.{eqb}
 use Rattle.shape.specs.Index.{at}
 use Rattle.shape.specs.Dims.{dimsOf, Fills}
 use Rattle.shape.proofs.IndexLaw.{dim-le-volume}
-use Rattle.maps.specs.Holds.{Stretches, SliceHolds, PadHolds, DynamicSliceHolds, IotaHolds}
+use Rattle.maps.specs.Holds.{Stretches, TransposeHolds, SliceHolds, PadHolds, DynamicSliceHolds, IotaHolds}
 use Rattle.elementwise.specs.Elementwise.{Tensor, spreadSize, Sized as TwoSized}
 use Rattle.ops.specs.declared.Move.{Move}
 use Rattle.ops.specs.declared.Move.the-variants.{Reshape, BroadcastInDim, Transpose, Slice, Reverse}
@@ -24,6 +24,7 @@ use Rattle.opcheck.specs.declared.Operation.{Operation}
 use Rattle.opcheck.specs.Accepted.{Granted}
 use Rattle.facts.specs.Facts.{ShapeRead, ListRead, Shaped, moveRule, AcceptedAs, taskOf, DoneByTask, Stretched}
 use Rattle.facts.proofs.BridgeLaw.{rank-is, below-rank, first-of, natural-list, natural-below, lone}
+use Rattle.facts.proofs.HoldsLaw.{transpose-holds}
 use Rattle.facts.proofs.AlikeLaw.{AsResult, SpreadTo, result-alike, alike-result, same-sizes, compare-sizes, select-sizes, clamp-sizes, unary-alike}
 
 -- a list with n numbers
@@ -98,7 +99,13 @@ module _ (o : Operation) (h : Shaped o) (x y z out : Tensor) (f : Stretched o x 
   move-ready Reshape l g = (stretches l, record { sizes = g .sizes })
   move-ready BroadcastInDim l g = (stretches l, g .count, natural-below (o .a) (h .a) (o .result .shape) (h .result) (g .listed .below))
   move-ready Transpose l g =
-      (stretches l, g .count, natural-below (o .a) (h .a) (typeAt (o .types) 0 .shape) (h .types 0 (omega arith)) (λ d m. g .listed .below d (rw (← g .count) m)))
+      let x = typeAt (o .types) 0 in (
+        stretches l,
+        g .count,
+        first-of (λ p. TransposeHolds p (dimsOf (x .shape)) (dimsOf (o .result .shape))) (o .a) (g .count)
+            (transpose-holds x (o .a) (o .result) (h .types 0 (omega arith)) (h .a) (h .result) g),
+        natural-below (o .a) (h .a) (typeAt (o .types) 0 .shape) (h .types 0 (omega arith)) (λ d m. g .listed .below d (rw (← g .count) m)),
+      )
   move-ready Slice l g =
       let n = slice-natural (typeAt (o .types) 0) (o .result) (h .types 0 (omega arith)) (h .result) (o .a) (o .b) (o .c) (h .a) (h .c) g in
       (stretches l, g .counts .0, slice-holds (typeAt (o .types) 0) (o .result) (h .types 0 (omega arith)) (h .result) (o .a) (o .b) (o .c) g, n .0, n .1)

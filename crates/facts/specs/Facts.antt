@@ -14,7 +14,7 @@ use Rattle.scalar.specs.declared.Direction.{Direction}
 use Rattle.scalar.specs.declared.Body.{Body}
 use Rattle.shape.specs.Dims.{dimsOf, Sized, Fills}
 use Rattle.shape.specs.declared.Shape.{Shape}
-use Rattle.maps.specs.Formulas.{numberOf}
+use Rattle.shape.specs.Whole.{numberOf}
 use Rattle.elementwise.specs.Elementwise.{Tensor}
 use Rattle.ops.specs.declared.Move.{Move}
 use Rattle.ops.specs.declared.Move.the-variants.{Reshape, BroadcastInDim, Transpose, Slice, Reverse}

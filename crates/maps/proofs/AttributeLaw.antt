@@ -8,7 +8,8 @@ use lib.ListN.{length, getD, take, length-take}
 use lib.IntN.{ℤ, pos}
 use lib.Seq.{getD-take}
 use Rattle.shape.specs.Index.{at}
-use Rattle.maps.specs.Formulas.{numberOf, gathered, padCoord, broadcastCoord, broadcastIndex, sliceIndex, padIndex, broadcasted, sliced, padded}
+use Rattle.shape.specs.Whole.{numberOf}
+use Rattle.maps.specs.Formulas.{gathered, padCoord, broadcastCoord, broadcastIndex, sliceIndex, padIndex, broadcasted, sliced, padded}
 use Rattle.maps.proofs.GatherLaw.{gathered-cong}
 
 -- the list of a shape's dimensions is at most as long as its rank

@@ -13,31 +13,32 @@ use lib.Dec.{eqb}
 use borrow.Author.Tests.{lt-ltb, le-ltb, eq-eqb, eqb-true}
 use Rattle.lists.specs.Lists.{pick, tab}
 use Rattle.lists.proofs.TabLaw.{getD-tab}
-use Rattle.element.proofs.Signed.{read-low, read-high}
 use Rattle.shape.specs.Index.{at, IndexOf, elementAt}
+use Rattle.shape.specs.Whole.{numberOf}
 use Rattle.shape.proofs.ElementLaw.{element-default}
-use Rattle.maps.specs.Formulas.{numberOf, padStep, padCoord, padIndex, padded}
+use Rattle.shape.proofs.WholeLaw.{number-low, number-high}
+use Rattle.maps.specs.Formulas.{padStep, padCoord, padIndex, padded}
 use Rattle.maps.proofs.GatherLaw.{gathered-at, index-is, index-of-tab}
 
 -- ---- the (padIndex low interior from (at i)) as the code finds it, by the sign of edge_padding_low
 
 module _ (low interior n x : ℕ) where
   pub pad-above : low < 2 ^ 63 → x < low → n ≡ padCoord (numberOf low) interior n x
-  pad-above h l = rw (read-low h) (go low l)
+  pad-above h l = rw (number-low h) (go low l)
     where
       go : (m : ℕ) → x < m → n ≡ padCoord (pos m) interior n x
       go zero l = absurd (let z : ⊥ = omega arith in z)
       go (suc m) l = rw (lt-ltb x (suc m) l)
 
   pub pad-below : low < 2 ^ 63 → low ≤ x → padStep interior n (pos (x - low)) ≡ padCoord (numberOf low) interior n x
-  pad-below h l = rw (read-low h) (go low l)
+  pad-below h l = rw (number-low h) (go low l)
     where
       go : (m : ℕ) → m ≤ x → padStep interior n (pos (x - m)) ≡ padCoord (pos m) interior n x
       go zero l = ap (λ (t : ℕ). padStep interior n (pos t)) (let e : x - 0 ≡ x + 0 = omega arith in e)
       go (suc m) l = rw (le-ltb x (suc m) l)
 
   pub pad-negative : 2 ^ 63 ≤ low → low < 2 ^ 64 → padStep interior n (pos (x + (18446744073709551615 - low + 1))) ≡ padCoord (numberOf low) interior n x
-  pad-negative h l = rw (read-high h l) (ap (λ (t : ℕ). padStep interior n (pos (x + t))) (add-one (18446744073709551615 - low)))
+  pad-negative h l = rw (number-high h) (ap (λ (t : ℕ). padStep interior n (pos (x + t))) (add-one (18446744073709551615 - low)))
 
 -- ---- one coordinate: "result_index = edge_padding_low + operand_index * (interior_padding + 1)"
 

@@ -17,9 +17,10 @@ use Rattle.lists.proofs.TabLaw.{getD-tab}
 use Rattle.element.specs.Types.{signedOf, valueOf}
 use Rattle.element.specs.declared.ElementType.{ElementType}
 use Rattle.shape.specs.Index.{at, Within, IndexOf, inSix}
+use Rattle.shape.specs.Whole.{ceilDiv}
 use Rattle.shape.proofs.IndexLaw.{at-six}
 use Rattle.maps.specs.Formulas.{sliceIndex, sliced, clampStart, startAt, adjustedStart, dynamicIndex, dynamicSliced}
-use Rattle.maps.specs.Holds.{SliceHolds, DynamicSliceHolds, ceilDiv}
+use Rattle.maps.specs.Holds.{SliceHolds, DynamicSliceHolds}
 use Rattle.maps.proofs.GatherLaw.{gathered-cong, index-of-tab}
 
 -- ---- slice

@@ -8,14 +8,11 @@ use lib.ListN.{length, getD}
 use lib.Dec.{ltb, eqb}
 use lib.IntN.{ℤ, pos, negsuc, _-ℤ_}
 use Rattle.lists.specs.Lists.{pick, tab}
-use Rattle.element.specs.Types.{read, valueOf, wrapTo}
+use Rattle.element.specs.Types.{valueOf, wrapTo}
 use Rattle.element.specs.declared.ElementType.{ElementType}
 use Rattle.shape.specs.Index.{at, ravel, unravel, tabulate, elementAt}
 use Rattle.shape.specs.Place.{placeIn}
-
--- "An attribute number lies in the signed 64-bit range" (01, "Sizes", 7)
-abbrev pub numberOf : ℕ → ℤ
-numberOf w = read true 64 w
+use Rattle.shape.specs.Whole.{numberOf}
 
 -- "result[result_index] = operand[operand_index]", operand_index[d] by a formula of result_index and d; z where that is no index of the operand
 abbrev pub gathered : ((ℕ → ℕ) → ℕ → ℕ) → List ℕ → List ℕ → List ℕ → ℕ → List ℕ

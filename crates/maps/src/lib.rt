@@ -7,11 +7,12 @@ ghost use Rattle.element.specs.Types.{valueOf, wrapTo};
 ghost use lib.IntN.{pos};
 ghost use Rattle.shape.specs.Index.{at, size, unravel, inSix};
 ghost use Rattle.shape.specs.Dims.{dimsOf, Sized, Fills};
-ghost use Rattle.maps.specs.Formulas.{numberOf, padStep, padCoord, broadcastCoord, reverseCoord, reshaped, broadcasted, transposed, sliced, reversed, padded, clampStart, adjustedStart, dynamicSliced, counted};
+ghost use Rattle.shape.specs.Whole.{numberOf};
+ghost use Rattle.maps.specs.Formulas.{padStep, padCoord, broadcastCoord, reverseCoord, reshaped, broadcasted, transposed, sliced, reversed, padded, clampStart, adjustedStart, dynamicSliced, counted};
 ghost use Rattle.maps.specs.Concatenation.{concatAt, concatenated, shapesOf, inputsOf};
 ghost use Rattle.lists.specs.Lists.{tab};
 ghost use Rattle.maps.specs.Kinds.{coordOf, Computes, Ready, operandIndex, mappedAt, mapped, Fed};
-ghost use Rattle.maps.specs.Holds.{Stretches, ReshapeHolds, SliceHolds, PadHolds, DynamicSliceHolds, IotaHolds, ConcatenateHolds, Inputs};
+ghost use Rattle.maps.specs.Holds.{Stretches, ReshapeHolds, TransposeHolds, SliceHolds, PadHolds, DynamicSliceHolds, IotaHolds, ConcatenateHolds, Inputs};
 use element::ElementType;
 use limits::Limits;
 use shape::Shape;
@@ -154,7 +155,7 @@ pub fn transpose(
     to: Shape,
     out: &mut [u64],
 )
-    requires { ⌜ Stretches from to (now x) (now out) ⌝ }
+    requires { ⌜ Stretches from to (now x) (now out) × TransposeHolds (take (from .rank) permutation) (dimsOf from) (dimsOf to) ⌝ }
     ensures { λ _. ⌜ now (out .exit) ≡ transposed (take (from .rank) permutation) (dimsOf from) (dimsOf to) (now (x .entry)) ⌝ }
 {
     let rank = from.rank;

@@ -5,7 +5,7 @@ use mathlib.Core.List.{List, [], _∷_, map}
 use Prim.Native.Nat.{ℕ, _^_, _<_}
 use Rattle.lists.specs.Lists.{All}
 use Rattle.element.proofs.Signed.{read-low}
-use Rattle.maps.specs.Formulas.{numberOf}
+use Rattle.shape.specs.Whole.{numberOf}
 use Rattle.ops.specs.OpAttributes.{natural, naturals}
 
 pub natural-number : (w : ℕ) → w < 2 ^ 63 → natural (numberOf w) ≡ w

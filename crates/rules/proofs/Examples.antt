@@ -9,7 +9,7 @@ use Rattle.element.specs.declared.ElementType.{ElementType}
 use Rattle.element.specs.declared.ElementType.the-variants.{I1, I8, I16, U8}
 use Rattle.dimrules.specs.Count.{firstFailing, everywhere}
 use Rattle.dimrules.specs.Whole.{nonNegative, positive, below, inOrder, ceilingIs, paddedIs}
-use Rattle.dimrules.specs.Dims.{isIn, isFirst, keptBelow, keptIs, dimTest}
+use Rattle.dimrules.specs.Dims.{isFirst, keptBelow, keptIs, dimTest}
 use Rattle.dimrules.specs.Types.{sameElement, sameShape, sameType, sameButOne, typeTest, allTypes, sumOfDims}
 use Rattle.dimrules.specs.declared.TensorType.{TensorType}
 use Rattle.dimrules.specs.declared.Numbers.{Numbers}
@@ -94,7 +94,7 @@ reductions : (reduction (tensor I8 []) (tensor I8 []) (one 1) (tensor I8 (one 2)
     × (reduction (tensor I8 []) (tensor I8 []) (one 1) (tensor U8 (one 3)) ≡ 7) × (reduction (tensor I8 []) (tensor I8 []) (one 1) (tensor U8 (one 2)) ≡ 8)
     × (reduction (tensor I8 []) (tensor I8 []) (one 2) (tensor I8 (one 2)) ≡ 4) × (reduction (tensor I8 []) (tensor I8 []) (1 ∷ 1 ∷ []) (tensor I8 (one 2)) ≡ 5)
     × (reduction (tensor I8 []) (tensor I8 []) (1 ∷ 0 ∷ []) (tensor I8 []) ≡ 0)
-unfolding reduction reduceConstraints everywhere firstFailing firstWhere dimTest below isFirst isIn keptBelow keptIs sameElement
+unfolding reduction reduceConstraints everywhere firstFailing firstWhere dimTest below isFirst keptBelow keptIs sameElement
 reductions = (refl, refl, refl, refl, refl, refl, refl, refl, refl)
 
 -- dynamic_slice: as many starts as the rank (OP-68), of one type, sizes within the operand; C5

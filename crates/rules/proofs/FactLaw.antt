@@ -20,7 +20,8 @@ use Rattle.shape.specs.Dims.{dimsOf}
 use Rattle.shape.specs.Place.{placeIn}
 use Rattle.dimrules.specs.Count.{everywhere}
 use Rattle.dimrules.specs.Whole.{numberOf, upOf, downOf, eqZ, ceilDiv, below, inOrder, positive, ceilingIs, paddedIs}
-use Rattle.dimrules.specs.Dims.{listOf, dim, num, isIn, isFirst, keptBelow, keptIs, dimTest}
+use Rattle.shape.specs.Place.{isIn}
+use Rattle.dimrules.specs.Dims.{listOf, dim, num, isFirst, keptBelow, keptIs, dimTest}
 use Rattle.dimrules.specs.Types.{elementCode, sameElement, sameShape, sameType, sameButOne, shapesOf, typeTest, typeAt, operandTest, allTypes, sumOfDims}
 use Rattle.dimrules.specs.declared.TensorType.{TensorType}
 use Rattle.dimrules.specs.declared.Numbers.{Numbers}
@@ -379,7 +380,7 @@ reduce-law x v a b dimensions r e =
       rank = eqb-true (r .shape .rank) (keptBelow dimensions n) (w .0);
       sizes = λ d l.
           either-way (λ q. q) (eqb-true (dim (x .shape) d) (dim (r .shape) (keptBelow dimensions d)))
-          (or-true (isIn dimensions d) (eqb (dim (x .shape) d) (dim (r .shape) (keptBelow dimensions d))) (holds-at n (dimTest Kept s) (w .1) d l));
+          (or-true (isIn (listOf dimensions) d) (eqb (dim (x .shape) d) (dim (r .shape) (keptBelow dimensions d))) (holds-at n (dimTest Kept s) (w .1) d l));
       element = same-element x r (h .1 .1 .1 .1 .1 .1 .1 .0);
     }
   where

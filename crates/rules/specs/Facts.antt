@@ -8,7 +8,8 @@ use Rattle.shape.specs.Index.{size}
 use Rattle.shape.specs.Dims.{dimsOf}
 use Rattle.shape.specs.declared.Shape.{Shape}
 use Rattle.dimrules.specs.Whole.{numberOf, upOf, downOf, ceilDiv}
-use Rattle.dimrules.specs.Dims.{dim, num, isIn, keptBelow}
+use Rattle.shape.specs.Place.{isIn}
+use Rattle.dimrules.specs.Dims.{dim, num, listOf, keptBelow}
 use Rattle.dimrules.specs.Types.{typeAt, sumOfDims}
 use Rattle.dimrules.specs.declared.TensorType.{TensorType}
 use Rattle.dimrules.specs.declared.Numbers.{Numbers}
@@ -112,5 +113,5 @@ pub record ReduceHolds (x v a b : TensorType) (dimensions : Numbers) (r : Tensor
   pub left : (x .element ≡ a .element) × (a .shape .rank ≡ 0)
   pub right : (x .element ≡ b .element) × (b .shape .rank ≡ 0)
   pub rank : r .shape .rank ≡ keptBelow dimensions (x .shape .rank)
-  pub sizes : (d : ℕ) → d < x .shape .rank → (isIn dimensions d ≡ true) ⊎ (dim (x .shape) d ≡ dim (r .shape) (keptBelow dimensions d))
+  pub sizes : (d : ℕ) → d < x .shape .rank → (isIn (listOf dimensions) d ≡ true) ⊎ (dim (x .shape) d ≡ dim (r .shape) (keptBelow dimensions d))
   pub element : x .element ≡ r .element

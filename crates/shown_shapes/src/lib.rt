@@ -7,7 +7,7 @@ ghost use Rattle.shape.specs.Dims.{dimsOf};
 ghost use Rattle.maps.specs.Formulas.{numberOf, reshaped, broadcasted, transposed, sliced, reversed, padded, dynamicSliced, counted};
 ghost use Rattle.maps.specs.Concatenation.{shapesOf, inputsOf, concatenated};
 ghost use Rattle.reduction.specs.Rows.{reduced};
-ghost use Rattle.shown_shapes.specs.Fit.{Fit, Few, IsAlong, IsSlice, IsPad, IsDynamic, AreInputs, IsConcatenation};
+ghost use Rattle.shown_shapes.specs.Fit.{Fit, Few, IsAlong, IsTranspose, IsSlice, IsPad, IsDynamic, AreInputs, IsConcatenation};
 use element::ElementType;
 use scalar::Body;
 use shape::Shape;
@@ -37,7 +37,7 @@ pub fn transpose(
     to: Shape,
     out: &mut [u64],
 )
-    requires { ⌜ Fit from (now x) × Fit to (now out) ⌝ }
+    requires { ⌜ Fit from (now x) × Fit to (now out) × IsTranspose (take (from .rank) permutation) (dimsOf from) (dimsOf to) ⌝ }
     ensures { λ _. ⌜ now (out .exit) ≡ transposed (take (from .rank) permutation) (dimsOf from) (dimsOf to) (now (x .entry)) ⌝ }
 {
     maps::transpose(x, from, permutation, to, out);

@@ -19,7 +19,7 @@ transpose-requires : tie.Need-transpose-requires
 transpose-requires c κs =
     let args = c .before .before .before .before .before .before .before .before .before .before .args in
     let h = move-ready (args .k) (args .x .now) (args .out .now) (c .before .enum-told3 .given .1) (c .before .before .before .before .before .before .before .before .before .before .pre) in
-    h .0
+    (h .0, h .2)
 
 slice-requires : tie.Need-slice-requires
 slice-requires c κs =
