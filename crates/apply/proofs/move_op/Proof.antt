@@ -51,7 +51,7 @@ returns-3 c =
     let args = c .before .before .before .before .before .before .before .before .before .before .before .before .before .args in
     let k = args .k in
     let h = move-ready k (args .x .now) (args .out .now) (c .before .before .before .before .enum-told3 .given .1) (c .before .before .before .before .before .before .before .before .before .before .before .before .before .pre) in
-    move-is k (args .x .now) (c .before .before .before .before .enum-told3 .given .1) (transpose-is k (args .x .now) _ (h .1) (h .2) (c .before .before .transpose .ensures))
+    move-is k (args .x .now) (c .before .before .before .before .enum-told3 .given .1) (transpose-is k (args .x .now) _ (h .1) (h .3) (c .before .before .transpose .ensures))
 
 returns-4 : tie.Need-returns-4
 returns-4 c =
