@@ -1,0 +1,2 @@
+pub mod LevelLaw
+pub mod CutLaw
