@@ -1,2 +1,3 @@
 pub mod LevelLaw
 pub mod CutLaw
+pub mod PiecesLaw
