@@ -1,3 +1,4 @@
 pub mod LevelLaw
 pub mod CutLaw
 pub mod PiecesLaw
+pub mod OneBodyLaw
