@@ -4,3 +4,4 @@ pub mod PiecesLaw
 pub mod OneBodyLaw
 pub mod ArgumentsLaw
 pub mod OrderLaw
+pub mod OpPieceLaw

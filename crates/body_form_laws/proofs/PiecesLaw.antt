@@ -56,7 +56,7 @@ pub op-inside : (b : Bool) (names : List Reading) (name : Token) (rest : List Re
     T (outside bodySet 0 (rolesOf (names ++ (reading true (quotedBy b) name ∷ rest))))
 op-inside b names name rest i y = outside-both bodySet 0 names (reading true (quotedBy b) name ∷ rest) (names-inside names i) (named-inside b name rest y)
 
-return-inside : (xs : List Reading) → OpParts BodyReturn xs → T (outside bodySet 0 (rolesOf xs))
+pub return-inside : (xs : List Reading) → OpParts BodyReturn xs → T (outside bodySet 0 (rolesOf xs))
 return-inside xs o = subst (λ (l : List Reading). T (outside bodySet 0 (rolesOf l))) (sym (o .whole)) (op-inside true (o .names) (o .name) (o .rest) (o .naming) (o .leaves))
 
 pub ops-inside : {text : List ℕ} {ops : List Reading} → BodyOpsRead text ops → T (outside bodySet 0 (rolesOf ops))
@@ -89,7 +89,7 @@ module _ (text : List ℕ) (close : Reading) (shut : close .role ≡ BodyClose) 
   unfolding begins depthAfter
   close-cut role = rw shut
 
-  close-none : (roles : List ℕ) (level depth : ℕ) → oneOf roles BodyClose ≡ false → withRole roles level depth (close ∷ []) ≡ []
+  pub close-none : (roles : List ℕ) (level depth : ℕ) → oneOf roles BodyClose ≡ false → withRole roles level depth (close ∷ []) ≡ []
   close-none roles level depth e = go (eqb depth level) (ap (oneOf roles) shut ∙ e)
     where
       go : (b : Bool) → oneOf roles (close .role) ≡ false → pick (b && oneOf roles (close .role)) (close .token .start ∷ []) [] ≡ []
