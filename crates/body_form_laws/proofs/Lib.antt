@@ -5,3 +5,5 @@ pub mod OneBodyLaw
 pub mod ArgumentsLaw
 pub mod OrderLaw
 pub mod OpPieceLaw
+pub mod TestLaw
+pub mod TwoOpsLaw
