@@ -7,3 +7,4 @@ pub mod OrderLaw
 pub mod OpPieceLaw
 pub mod TestLaw
 pub mod TwoOpsLaw
+pub mod FormLaw

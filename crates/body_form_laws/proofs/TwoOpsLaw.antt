@@ -126,7 +126,7 @@ join false e s t = refl
 
 module _ (text : List ℕ) (body op : Parts) (arguments types : List ℕ) (p q : List Reading) (named : PartListed body inputName arguments) (typed : PartListed body inputType types)
     (listed : (k : ℕ) → k < 7 → PartListed body k (withRole (partRoles k) 0 0 p ++ withRole (partRoles k) 0 0 q)) where
-  summed : (k n : ℕ) → k < 7 → n < 9 → hasCount body k n ≡ true → lengthOf k p + lengthOf k q ≡ n
+  pub summed : (k n : ℕ) → k < 7 → n < 9 → hasCount body k n ≡ true → lengthOf k p + lengthOf k q ≡ n
   unfolding hasCount
   summed k n h g e =
       let c = eqb-true (countOf body k) n e in
@@ -151,7 +151,7 @@ module _ (text : List ℕ) (body op : Parts) (arguments types : List ℕ) (p q :
     own-counted k n h g e = let s = inner k h .count in eq-eqb (countOf op k) n (omega arith)
 
     -- by the counts
-    counted-lengths : bodyCounted body ≡ true → opCounted body op ≡ true → Lengths arguments types p q
+    pub counted-lengths : bodyCounted body ≡ true → opCounted body op ≡ true → Lengths arguments types p q
     unfolding bodyCounted opCounted hasCount
     counted-lengths b o =
         let h = nine (hasCount body inputName 2) (hasCount body inputType 2) (hasCount body opName 2) (hasCount body resultName 1) (hasCount body operandName 3) (hasCount body operandType 3) (hasCount body resultType 1)
