@@ -9,18 +9,17 @@ use native.Mathlib.Decide.{ℕ-discrete}
 use lib.Dec.{T, eqb}
 use lib.ListN.{length, getD, length-append}
 use borrow.Author.Tests.{eqb-true}
-use Rattle.lists.specs.Lists.{pick, All, concat}
+use Rattle.lists.specs.Lists.{All, concat}
 use Rattle.lists.proofs.AllLaw.{all-get}
 use Rattle.scan.specs.Bytes.{among as oneOf}
 use Rattle.text.specs.declared.Token.{Token}
-use Rattle.grammar.specs.Symbols.{ResultName, ArgumentName, ArgumentType, BodyOpName, BodyReturn, BodyClose, Body, Op}
+use Rattle.grammar.specs.Symbols.{ArgumentName, ArgumentType, BodyOpName, BodyClose, Body, Op}
 use Rattle.grammar.specs.Leaves.{Parsed}
-use Rattle.grammar.proofs.TableTest.{both, both-left, both-right, upTo, up-to}
+use Rattle.grammar.proofs.TableTest.{both, both-left, both-right, up-to}
 use Rattle.grammar.proofs.Within.{allPass}
 use Rattle.syntax.specs.Readings.{Reading, reading, readingsOf}
 use Rattle.syntax.specs.Roles.{rolesOf, tokensOf}
 use Rattle.syntax.specs.Tokens.{kindsOf}
-use Rattle.syntax.specs.OpsAlone.{OpParts}
 use Rattle.syntax.specs.BodiesAlone.{BodyOpAlone, BodyOutline}
 use Rattle.judge.specs.Judge.{textRefusal}
 use Rattle.program.specs.declared.Parts.{Parts}
@@ -28,7 +27,7 @@ use Rattle.program.specs.Parts.{noParts, partsFrom, opAt, bodyAt}
 use Rattle.places.specs.Places.{opName, resultName, operandName, operandType, resultType, attributeName, bodyOpen, inputName, inputType, countOf, placeOf}
 use Rattle.scope.specs.Scope.{begins}
 use Rattle.bodies.specs.Bodies.{innerOp, hasCount, bodyCounted, opCounted, rowNamed, isReducer, onBoth, returnsIt, oneType, formed, bodyFits}
-use Rattle.source.specs.Source.{withRole, cutFrom, OpText, opFrom}
+use Rattle.source.specs.Source.{withRole, cutFrom, opFrom}
 use Rattle.source_laws.specs.Listed.{partRoles, PartListed}
 use Rattle.source_laws.proofs.ListedLaw.{part-listed}
 use Rattle.source_laws.proofs.CutLaw.{cut-whole}
@@ -41,7 +40,7 @@ use Rattle.body_form_laws.proofs.ArgumentsLaw.{arguments-listed, argume
 use Rattle.body_form_laws.proofs.OrderLaw.{Later, read-from, after-name, roles-all}
 use Rattle.body_form_laws.proofs.OpPieceLaw.{one-name, names-count, alone-parts, first-result}
 use Rattle.body_form_laws.proofs.TestLaw.{six, nine, same-tests, get-left, get-right}
-use Rattle.body_form_laws.proofs.TwoOpsLaw.{lengthOf, Plain, Lengths, list-lengths, summed, counted-lengths, same-form}
+use Rattle.body_form_laws.proofs.TwoOpsLaw.{lengthOf, Lengths, list-lengths, summed, counted-lengths, same-form}
 
 -- ---- what the form says at once
 
@@ -156,7 +155,7 @@ module _ (text : List ℕ) (e : textRefusal text .number ≡ 0) (body : Parts) (
               let g : 0 < lengthOf resultName p = omega arith in
               by-lengths g (counted-lengths text body inside arguments types p q named typed listed (op-inner g) (c .counted) (c .own))
 
-  module _ (close : Reading) (shut : close .role ≡ BodyClose) (at : ℕ) (outline : List Reading) where
+  module _ (close : Reading) (shut : close .role ≡ BodyClose) where
     other-number : {ps : List (List Reading)} → BodyPieces text close ps → PartListed body opName (gathered (partRoles opName) ps) → (length ps ≡ 2 → ⊥) → formed text body inside ≡ false
     other-number v n h = let c = names-count close shut v in let m = n .count in not-formed text body inside (λ z. h (omega arith))
 
@@ -191,7 +190,7 @@ form-of text e at o parsed =
     let ps = body-ops s .pieces in
     let whole : ys ≡ before ++ concat ps = sym (cut-whole begins 1 0 0 ys) ∙ ap (λ (l : List (List Reading)). before ++ concat l) (body-cut s) in
     ap (λ (b : Parts). formed text b (innerOp text b)) (parts-there text e Body 1 at)
-    ∙ (by-pieces text e body (withRole (ArgumentName ∷ []) 1 0 ys) (withRole (ArgumentType ∷ []) 1 0 ys) (arguments-listed ys (parsed .leaves)) (argument-types-listed ys (parsed .leaves)) (s .close) (s .shut) at ys (body-ops s .view)
+    ∙ (by-pieces text e body (withRole (ArgumentName ∷ []) 1 0 ys) (withRole (ArgumentType ∷ []) 1 0 ys) (arguments-listed ys (parsed .leaves)) (argument-types-listed ys (parsed .leaves)) (s .close) (s .shut) (body-ops s .view)
     (ops-listed s)
     (λ names name rest qs q.
     let x = reading true BodyOpName name in

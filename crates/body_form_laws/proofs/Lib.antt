@@ -8,3 +8,4 @@ pub mod OpPieceLaw
 pub mod TestLaw
 pub mod TwoOpsLaw
 pub mod FormLaw
+pub mod SameBodyLaw

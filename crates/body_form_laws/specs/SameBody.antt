@@ -2,7 +2,6 @@
 -- Assumes nothing.
 use Prim.Native.Nat.{ℕ, _<_}
 use mathlib.Core.Path.{_≡_}
-use mathlib.Core.Bool.{true}
 use mathlib.Core.List.{List, [], _++_}
 use lib.ListN.{getD}
 use Rattle.grammar.specs.Symbols.{OpName, Body, Op}
@@ -22,11 +21,14 @@ pub record OpStands (text : List ℕ) (at : ℕ) : Type 0 where
   pub post : List Reading
   pub whole : readings text ≡ pre ++ (readingsOf Op text at ++ post)
 
--- the readings from a body's brace on, and the place of the brace
+-- the body whose brace is at a byte, as the code has it; and the body by the readings from its brace on
 pub record SameBody (text : List ℕ) (brace : ℕ) (piece : List Reading) : Type 0 where
   pub readings : enclosed 0 piece ≡ readingsOf Body text brace
+  -- 9 standing for more than eight arguments, the first eight by their places
   pub arguments : PartListed (bodyAt text brace) inputName (bodyFrom piece .arguments)
   pub argumentTypes : PartListed (bodyAt text brace) inputType (bodyFrom piece .argumentTypes)
   pub types : (j : ℕ) → j < 8 → argumentType text brace j ≡ typeIn text (getD (bodyFrom piece .argumentTypes) j 0)
+  -- 01, "Reductions": "The body has two arguments and one op of add, .. on both, each once, either way round, and returns it."
   pub form : bodyFits text brace ≡ ofBodyForm text (bodyFrom piece)
-  pub row : bodyFits text brace ≡ true → bodyRow text brace ≡ opNumber text (getD (bodyFrom piece .ops) 0 (opFrom []))
+  -- the row in the op table of its first op
+  pub row : bodyRow text brace ≡ opNumber text (getD (bodyFrom piece .ops) 0 (opFrom []))
