@@ -1,0 +1,225 @@
+-- A body by its readings: its brace, its header, its ops and the return as pieces; the tokens of its ops are those of the pieces.
+-- Assumes nothing.
+use mathlib.Core.Path.{_≡_, refl, sym, ap, subst, _∙_}
+use mathlib.Core.List.{List, [], _∷_, _++_, append-nil, append-assoc}
+use mathlib.Core.Bool.{Bool, true, false, not, _&&_}
+use Prim.Native.Nat.{ℕ, zero, suc}
+use native.Mathlib.Omega.{arith}
+use lib.Dec.{T, eqb}
+use Rattle.lists.specs.Lists.{pick}
+use Rattle.text.specs.declared.Token.{Token}
+use Rattle.scan.specs.Bytes.{among as oneOf}
+use Rattle.grammar.specs.Symbols.{ResultName, OpName, FuncReturn, OpRest, BodyOpen, BodyLabel, BodyOpName, BodyReturn, BodyClose, Body, MoreResults, Arguments, equals, lparen, rparen, colon, among}
+use Rattle.grammar.specs.Leaves.{Yields}
+use Rattle.grammar.proofs.Leaves.{leading}
+use Rattle.grammar.proofs.Within.{allPass}
+use Rattle.syntax.specs.Readings.{Reading, reading, readingsOf}
+use Rattle.syntax.specs.Roles.{rolesOf}
+use Rattle.syntax.specs.OpsAlone.{Naming, unnamed, results, OpParts}
+use Rattle.syntax.specs.BodiesAlone.{BodyOpAlone, BodyOpsRead, return, op, BodyOutline}
+use Rattle.program.specs.Parts.{depthAfter}
+use Rattle.scope.specs.Scope.{begins}
+use Rattle.source.specs.Source.{withRole, Cut, cutFrom, enclosed}
+use Rattle.part_laws.proofs.DepthLaw.{outside, yields-outside}
+use Rattle.body_form_laws.proofs.LevelLaw.{outside-both, enclosed-inside, role-inside, role-append, role-none}
+use Rattle.body_form_laws.proofs.CutLaw.{restSet, nameSet, headSet, bodySet, keeps-rest, keeps-names, keeps-head, keeps-body, lastOf, Apart, head-last, cut-past, quotedBy, following-apart, cut-op}
+
+-- ---- an op of a body, by roles
+
+-- result names, or none
+pub naming-case : {ls : List ℕ} (C : List ℕ → Type 0) → Naming ls → C [] → ((ms : List ℕ) → Yields (ResultName ∷ MoreResults ∷ equals ∷ []) ms → C ms) → C ls
+naming-case C unnamed x f = x
+naming-case C (results {ls} y) x f = f ls y
+
+pub names-outside : (names : List Reading) → Naming (rolesOf names) → T (outside nameSet 0 (rolesOf names))
+unfolding depthAfter
+names-outside names i = naming-case (λ (l : List ℕ). T (outside nameSet 0 l)) i tt (λ ms y. yields-outside nameSet keeps-names y 0 tt)
+
+names-inside : (names : List Reading) → Naming (rolesOf names) → T (outside bodySet 0 (rolesOf names))
+unfolding depthAfter
+names-inside names i = naming-case (λ (l : List ℕ). T (outside bodySet 0 l)) i tt (λ ms y. yields-outside bodySet keeps-body y 0 tt)
+
+pub rest-outside : (rest : List Reading) → Yields (OpRest ∷ []) (rolesOf rest) → T (outside restSet 0 (rolesOf rest))
+unfolding depthAfter
+rest-outside rest y = yields-outside restSet keeps-rest y 0 tt
+
+rest-inside : (rest : List Reading) → Yields (OpRest ∷ []) (rolesOf rest) → T (outside bodySet 0 (rolesOf rest))
+unfolding depthAfter
+rest-inside rest y = yields-outside bodySet keeps-body y 0 tt
+
+named-inside : (b : Bool) (name : Token) (rest : List Reading) → Yields (OpRest ∷ []) (rolesOf rest) → T (outside bodySet 0 (rolesOf (reading true (quotedBy b) name ∷ rest)))
+unfolding depthAfter
+named-inside true name rest y = rest-inside rest y
+named-inside false name rest y = rest-inside rest y
+
+pub op-inside : (b : Bool) (names : List Reading) (name : Token) (rest : List Reading) → Naming (rolesOf names) → Yields (OpRest ∷ []) (rolesOf rest) →
+    T (outside bodySet 0 (rolesOf (names ++ (reading true (quotedBy b) name ∷ rest))))
+op-inside b names name rest i y = outside-both bodySet 0 names (reading true (quotedBy b) name ∷ rest) (names-inside names i) (named-inside b name rest y)
+
+pub return-inside : (xs : List Reading) → OpParts BodyReturn xs → T (outside bodySet 0 (rolesOf xs))
+return-inside xs o = subst (λ (l : List Reading). T (outside bodySet 0 (rolesOf l))) (sym (o .whole)) (op-inside true (o .names) (o .name) (o .rest) (o .naming) (o .leaves))
+
+pub ops-inside : {text : List ℕ} {ops : List Reading} → BodyOpsRead text ops → T (outside bodySet 0 (rolesOf ops))
+ops-inside (return {xs} o) = return-inside xs o
+ops-inside (op names name rest {more} a m) =
+    subst (λ (l : List Reading). T (outside bodySet 0 (rolesOf l))) (append-assoc names (reading true BodyOpName name ∷ rest) more)
+    (outside-both bodySet 0 (names ++ (reading true BodyOpName name ∷ rest)) more (op-inside false names name rest (a .naming) (a .leaves)) (ops-inside m))
+
+-- ---- the pieces
+
+-- the readings of each op, and those of the return with the closing brace
+pub data BodyPieces (text : List ℕ) (close : Reading) : List (List Reading) → Type 0 where
+  last : {xs : List Reading} → OpParts BodyReturn xs → BodyPieces text close ((xs ++ (close ∷ [])) ∷ [])
+  next : (names : List Reading) (name : Token) (rest : List Reading) {ps : List (List Reading)} → BodyOpAlone text names name rest → BodyPieces text close ps →
+      BodyPieces text close ((names ++ (reading true BodyOpName name ∷ rest)) ∷ ps)
+
+-- the tokens of some roles of the pieces, one after the other
+abbrev pub gathered : List ℕ → List (List Reading) → List ℕ
+gathered roles [] = []
+gathered roles (p ∷ ps) = withRole roles 0 0 p ++ gathered roles ps
+
+pub record OpsCut (text : List ℕ) (close : Reading) (ops : List Reading) : Type 0 where
+  pub pieces : List (List Reading)
+  pub view : BodyPieces text close pieces
+  pub cut : (role : ℕ) → Apart role → cutFrom begins 1 role 1 (ops ++ (close ∷ [])) ≡ record { before = []; pieces = pieces }
+  pub gathers : (roles : List ℕ) → oneOf roles BodyClose ≡ false → withRole roles 1 1 (ops ++ (close ∷ [])) ≡ gathered roles pieces
+
+module _ (text : List ℕ) (close : Reading) (shut : close .role ≡ BodyClose) where
+  close-cut : (role : ℕ) → cutFrom begins 1 role 1 (close ∷ []) ≡ record { before = close ∷ []; pieces = [] }
+  unfolding begins depthAfter
+  close-cut role = rw shut
+
+  pub close-none : (roles : List ℕ) (level depth : ℕ) → oneOf roles BodyClose ≡ false → withRole roles level depth (close ∷ []) ≡ []
+  close-none roles level depth e = go (eqb depth level) (ap (oneOf roles) shut ∙ e)
+    where
+      go : (b : Bool) → oneOf roles (close .role) ≡ false → pick (b && oneOf roles (close .role)) (close .token .start ∷ []) [] ≡ []
+      go true q = rw q
+      go false q = refl
+
+  cut-return : (xs : List Reading) → OpParts BodyReturn xs → (role : ℕ) → Apart role → cutFrom begins 1 role 1 (xs ++ (close ∷ [])) ≡ record { before = []; pieces = (xs ++ (close ∷ [])) ∷ [] }
+  cut-return xs o role a =
+      let x = reading true BodyReturn (o .name) in
+      let zs = close ∷ [] in
+      let e : xs ++ zs ≡ o .names ++ (x ∷ (o .rest ++ zs)) = ap (λ (l : List Reading). l ++ zs) (o .whole) ∙ append-assoc (o .names) (x ∷ o .rest) zs in
+      ap (λ (l : List Reading). cutFrom begins 1 role 1 l) e
+      ∙ (cut-op true x refl (o .rest) zs (o .leaves) role a (o .names) (o .naming)
+      ∙ (ap (λ (c : Cut). record { before = []; pieces = (o .names ++ (x ∷ (o .rest ++ c .before))) ∷ c .pieces }) (close-cut (lastOf BodyReturn (rolesOf (o .rest))))
+      ∙ ap (λ (l : List Reading). record { before = []; pieces = l ∷ [] }) (sym e)))
+
+  pub ops-cut : {ops : List Reading} → BodyOpsRead text ops → OpsCut text close ops
+  ops-cut (return {xs} o) =
+      record {
+        pieces = (xs ++ (close ∷ [])) ∷ [];
+        view = last o;
+        cut = cut-return xs o;
+        gathers = λ roles e.
+            role-inside bodySet tt roles 0 xs (close ∷ []) (return-inside xs o) ∙ (ap (λ (l : List ℕ). withRole roles 0 0 xs ++ l) (close-none roles 1 1 e ∙ sym (close-none roles 0 0 e))
+            ∙ (sym (role-append bodySet roles 0 xs (close ∷ []) (return-inside xs o)) ∙ sym (append-nil (withRole roles 0 0 (xs ++ (close ∷ []))))));
+      }
+  ops-cut (op names name rest {more} a m) =
+      let i = ops-cut m in
+      let x = reading true BodyOpName name in
+      let zs = more ++ (close ∷ []) in
+      let one = names ++ (x ∷ rest) in
+      let e : (names ++ (x ∷ (rest ++ more))) ++ (close ∷ []) ≡ names ++ (x ∷ (rest ++ zs)) =
+      append-assoc names (x ∷ (rest ++ more)) (close ∷ []) ∙ ap (λ (l : List Reading). names ++ (x ∷ l)) (append-assoc rest more (close ∷ [])) in
+      let f : names ++ (x ∷ (rest ++ zs)) ≡ one ++ zs = sym (append-assoc names (x ∷ rest) zs) in
+      record {
+        pieces = one ∷ i .pieces;
+        view = next names name rest a (i .view);
+        cut = λ role b.
+            ap (λ (l : List Reading). cutFrom begins 1 role 1 l) e
+            ∙ (cut-op false x refl rest zs (a .leaves) role b names (a .naming)
+            ∙ (ap (λ (c : Cut). record { before = []; pieces = (names ++ (x ∷ (rest ++ c .before))) ∷ c .pieces }) (i .cut (lastOf BodyOpName (rolesOf rest)) (following-apart false x refl rest zs (a .leaves)))
+            ∙ ap (λ (l : List Reading). record { before = []; pieces = (names ++ (x ∷ l)) ∷ i .pieces }) (append-nil rest)));
+        gathers = λ roles c.
+            ap (withRole roles 1 1) (e ∙ f) ∙ (role-inside bodySet tt roles 0 one zs (op-inside false names name rest (a .naming) (a .leaves)) ∙ ap (λ (l : List ℕ). withRole roles 0 0 one ++ l) (i .gathers roles c));
+      }
+
+-- ---- the whole body
+
+pub record BodyShape (text : List ℕ) (ys : List Reading) : Type 0 where
+  pub brace : Reading
+  pub head : List Reading
+  pub ops : List Reading
+  pub close : Reading
+  pub whole : ys ≡ brace ∷ (head ++ (ops ++ (close ∷ [])))
+  pub opened : brace .role ≡ BodyOpen
+  pub leaves : Yields (BodyLabel ∷ lparen ∷ Arguments ∷ rparen ∷ colon ∷ []) (rolesOf head)
+  pub each : BodyOpsRead text ops
+  pub shut : close .role ≡ BodyClose
+
+module _ {text : List ℕ} {at : ℕ} (o : BodyOutline text at) where
+  by-lists : (header closing : List Reading) → readingsOf Body text at ≡ header ++ (o .ops ++ closing) → Yields (BodyOpen ∷ BodyLabel ∷ lparen ∷ Arguments ∷ rparen ∷ colon ∷ []) (rolesOf header) →
+      rolesOf closing ≡ BodyClose ∷ [] → BodyShape text (readingsOf Body text at)
+  by-lists [] closing e y c = let l = leading (omega arith) y in let z : _≡_ {A = ℕ} 0 1 = (let w = l .first in cc) in absurd (omega arith)
+  by-lists (x ∷ hs) [] e y c = let z : _≡_ {A = ℕ} 0 1 = cc in absurd (omega arith)
+  by-lists (x ∷ hs) (c0 ∷ d ∷ cs) e y c = let z : _≡_ {A = ℕ} 0 1 = cc in absurd (omega arith)
+  by-lists (x ∷ hs) (c0 ∷ []) e y c =
+      let l = leading (omega arith) y in
+      let v : rolesOf hs ≡ l .after = (let w = l .first in cc) in
+      record {
+        brace = x;
+        head = hs;
+        ops = o .ops;
+        close = c0;
+        whole = e;
+        opened = (let w = l .first in cc);
+        leaves = subst (Yields (BodyLabel ∷ lparen ∷ Arguments ∷ rparen ∷ colon ∷ [])) (sym v) (l .others);
+        each = o .each;
+        shut = cc;
+      }
+
+  pub shaped : BodyShape text (readingsOf Body text at)
+  shaped = by-lists (o .header) (o .closing) (o .whole) (o .head) (o .close)
+
+module _ {text : List ℕ} {ys : List Reading} (s : BodyShape text ys) where
+  head-inside : T (outside bodySet 0 (rolesOf (s .head)))
+  unfolding depthAfter
+  head-inside = yields-outside bodySet keeps-body (s .leaves) 0 tt
+
+  head-outside : T (outside headSet 0 (rolesOf (s .head)))
+  unfolding depthAfter
+  head-outside = yields-outside headSet keeps-head (s .leaves) 0 tt
+
+  step-in : depthAfter 0 (s .brace .role) ≡ 1
+  unfolding depthAfter
+  step-in = rw (s .opened)
+
+  -- a body ends at the brace that closes it
+  pub enclosed-body : (others : List Reading) → enclosed 0 (ys ++ others) ≡ ys
+  enclosed-body others =
+      let b = s .brace in
+      let c = s .close in
+      let inside = s .head ++ s .ops in
+      let t = outside-both bodySet 0 (s .head) (s .ops) head-inside (ops-inside (s .each)) in
+      let e : ys ≡ b ∷ (inside ++ (c ∷ [])) = s .whole ∙ ap (λ (l : List Reading). b ∷ l) (sym (append-assoc (s .head) (s .ops) (c ∷ []))) in
+      let f : ys ++ others ≡ b ∷ (inside ++ (c ∷ others)) = ap (λ (l : List Reading). l ++ others) e ∙ ap (λ (l : List Reading). b ∷ l) (append-assoc inside (c ∷ []) others) in
+      ap (enclosed 0) f
+      ∙ (ap (λ (n : ℕ). pick (eqb n 0) (b ∷ []) (b ∷ enclosed n (inside ++ (c ∷ others)))) step-in
+      ∙ (ap (λ (l : List Reading). b ∷ l) (enclosed-inside bodySet tt 0 inside c others t (s .shut)) ∙ sym e))
+
+  abbrev tail : List Reading
+  tail = s .ops ++ (s .close ∷ [])
+
+  -- its ops are its pieces
+  pub body-ops : OpsCut text (s .close) (s .ops)
+  body-ops = ops-cut text (s .close) (s .shut) (s .each)
+
+  pub body-cut : cutFrom begins 1 0 0 ys .pieces ≡ body-ops .pieces
+  body-cut =
+      let b = s .brace in
+      let a = head-last (b .role) (rolesOf (s .head)) (s .leaves) in
+      ap (λ (l : List Reading). cutFrom begins 1 0 0 l .pieces) (s .whole)
+      ∙ (ap (λ (n : ℕ). cutFrom begins 1 (b .role) n (s .head ++ tail) .pieces) step-in
+      ∙ (ap (λ (c : Cut). c .pieces) (cut-past headSet tt tt (b .role) 0 (s .head) tail head-outside)
+      ∙ ap (λ (c : Cut). c .pieces) (body-ops .cut (lastOf (b .role) (rolesOf (s .head))) a)))
+
+  -- the tokens of roles that do not stand in its header
+  pub body-gathers : (roles : List ℕ) → oneOf roles BodyClose ≡ false → T (allPass (λ r. not (oneOf roles r)) headSet) → withRole roles 1 0 ys ≡ gathered roles (body-ops .pieces)
+  body-gathers roles c t =
+      let b = s .brace in
+      ap (withRole roles 1 0) (s .whole)
+      ∙ (ap (λ (n : ℕ). withRole roles 1 n (s .head ++ tail)) step-in
+      ∙ (role-inside bodySet tt roles 0 (s .head) tail head-inside
+      ∙ (ap (λ (l : List ℕ). l ++ withRole roles 1 1 tail) (role-none headSet roles t 0 (s .head) head-outside) ∙ body-ops .gathers roles c)))
