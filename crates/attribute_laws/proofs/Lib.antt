@@ -1,0 +1,5 @@
+pub mod ValueRun
+pub mod FormLaw
+pub mod PieceLaw
+pub mod ViewLaw
+pub mod PiecesLaw
