@@ -3,3 +3,4 @@ pub mod FormLaw
 pub mod PieceLaw
 pub mod ViewLaw
 pub mod PiecesLaw
+pub mod ReadLaw

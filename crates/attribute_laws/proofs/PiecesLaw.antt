@@ -2,14 +2,13 @@
 -- Assumes nothing.
 use mathlib.Core.Path.{_≡_, refl, sym, ap, subst, _∙_}
 use mathlib.Core.List.{List, [], _∷_, map}
-use mathlib.Core.Bool.{Bool, true, false, not, _&&_, _||_}
+use mathlib.Core.Bool.{Bool, true, false, _&&_}
 use Prim.Native.Nat.{ℕ, zero, suc, _+_, _<_, _≤_}
 use native.Mathlib.Omega.{arith}
 use lib.Dec.{T, eqb}
 use lib.ListN.{length, getD}
 use borrow.Author.Tests.{eqb-true}
 use Rattle.lists.specs.Lists.{pick, All}
-use Rattle.scan.specs.Bytes.{among}
 use Rattle.text.specs.Lex.{tokenAt}
 use Rattle.text.specs.declared.Token.{Token}
 use Rattle.grammar.specs.Symbols.{AttributeName, Op, matches}
@@ -22,7 +21,7 @@ use Rattle.syntax.specs.Roles.{rolesOf, tokensOf}
 use Rattle.syntax.specs.OpsAlone.{OpAlone}
 use Rattle.syntax.proofs.AloneLaw.{token-again, readings-short}
 use Rattle.program.specs.Parts.{depthAfter}
-use Rattle.source.specs.Source.{withRole, Cut, cutFrom, AttributeText, attributeFrom, OpText, opFrom}
+use Rattle.source.specs.Source.{Cut, cutFrom, AttributeText, attributeFrom, OpText, opFrom}
 use Rattle.verifier.specs.AttributeRules.{firstToken}
 use Rattle.default_laws.proofs.DenseLaw.{stand-first}
 use Rattle.attribute_laws.specs.Forms.{Form, Formed}
@@ -54,35 +53,6 @@ pieces-case P before depth x xs f g = go (eqb depth 0) (eqb (x .role) AttributeN
 flat-name : (d r : ℕ) → d ≡ 0 → r ≡ AttributeName → depthAfter d r ≡ 0
 unfolding depthAfter
 flat-name d r p q = rw (p, q)
-
--- the first token of a piece is its name's
-pub names-first : (before depth : ℕ) (xs : List Reading) → map (λ p. firstToken (attributeFrom p .names)) (piecesFrom before depth xs) ≡ withRole (AttributeName ∷ []) 0 depth xs
-names-first before depth [] = refl
-names-first before depth (x ∷ xs) =
-    let ih = names-first (x .role) (depthAfter depth (x .role)) xs in
-    pieces-case (λ ps. map (λ p. firstToken (attributeFrom p .names)) ps ≡ withRole (AttributeName ∷ []) 0 depth (x ∷ xs)) before depth x xs
-    (λ d r. ap {B = List ℕ} (λ (n : ℕ). n ∷ map (λ p. firstToken (attributeFrom p .names)) (piecesFrom (x .role) (depthAfter depth (x .role)) xs)) (one r) ∙ (ap {B = List ℕ} (λ (l : List ℕ). x .token .start ∷ l) ih ∙ sym (here d r)))
-    (λ q. ih ∙ sym (past q))
-  where
-    more : List ℕ
-    more = withRole (AttributeName ∷ []) 0 (depthAfter depth (x .role)) xs
-
-    noted : Bool → List ℕ
-    noted b = pick b (x .token .start ∷ more) more
-
-    here : depth ≡ 0 → x .role ≡ AttributeName → noted (eqb depth 0 && among (AttributeName ∷ []) (x .role)) ≡ x .token .start ∷ more
-    here d r = rw (d, r)
-
-    or-none : (b c : Bool) → b && c ≡ false → b && (c || false) ≡ false
-    or-none true true e = e
-    or-none true false e = refl
-    or-none false c e = refl
-
-    past : eqb depth 0 && eqb (x .role) AttributeName ≡ false → noted (eqb depth 0 && among (AttributeName ∷ []) (x .role)) ≡ more
-    past q = ap noted (or-none (eqb depth 0) (eqb (x .role) AttributeName) q)
-
-    one : x .role ≡ AttributeName → firstToken (attributeFrom (x ∷ upToName (x .role) (depthAfter depth (x .role)) xs) .names) ≡ x .token .start
-    one r = rw r
 
 module _ (text : List ℕ) where
   -- a piece has one of the four forms
