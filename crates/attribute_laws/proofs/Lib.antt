@@ -4,3 +4,6 @@ pub mod PieceLaw
 pub mod ViewLaw
 pub mod PiecesLaw
 pub mod ReadLaw
+pub mod SomeLaw
+pub mod FitLaw
+pub mod RowLaw
