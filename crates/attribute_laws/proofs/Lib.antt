@@ -1,0 +1,9 @@
+pub mod ValueRun
+pub mod FormLaw
+pub mod PieceLaw
+pub mod ViewLaw
+pub mod PiecesLaw
+pub mod ReadLaw
+pub mod SomeLaw
+pub mod FitLaw
+pub mod RowLaw
