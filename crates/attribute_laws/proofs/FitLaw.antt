@@ -82,7 +82,7 @@ module _ (text : List ℕ) (op : Parts) (attrs : List AttributeText) (listed : P
   stands-at k j h e n = sym (seek-here text op k j (sought-to k j (omega arith) n) h (eq-eqb (attributeOf text op j) k e))
 
   -- one that stands nowhere is none of the first eight
-  stands-nowhere : (k : ℕ) → stands text op k ≡ false → (j : ℕ) → j < attributesOf op → attributeOf text op j ≡ k → ⊥
+  pub stands-nowhere : (k : ℕ) → stands text op k ≡ false → (j : ℕ) → j < attributesOf op → attributeOf text op j ≡ k → ⊥
   unfolding stands standsAt
   stands-nowhere k e j h q =
       let n = attributesOf op in
@@ -107,13 +107,13 @@ module _ (text : List ℕ) (op : Parts) (attrs : List AttributeText) (listed : P
     -- ---- what fits has no reason
 
     module _ (fit : attributesFit text op row ≡ true) where
-      all-told : attributesOf op ≡ length attrs
+      pub all-told : attributesOf op ≡ length attrs
       all-told = let a = attributes-few text op row fit in let c = attribute-count in let b = attributes-are in omega arith
 
       below : (j : ℕ) → j < length attrs → j < attributesOf op
       below j h = let a = all-told in omega arith
 
-      few : (j : ℕ) → j < length attrs → j < 8
+      pub few : (j : ℕ) → j < length attrs → j < 8
       few j h = let a = all-told in let b = attributes-are in omega arith
 
       -- attribute j: its number, its place in the row, where it stands, its kind
@@ -132,7 +132,7 @@ module _ (text : List ℕ) (op : Parts) (attrs : List AttributeText) (listed : P
             subst (λ (k : ℕ). kindFits text (firstToken (attr j .names)) (attributeKind k) ≡ true) e (subst (λ (n : ℕ). kindFits text n (attributeKind k) ≡ true) w (a .1)),
           )
 
-      none-doubled : doubledAttribute text attrs ≡ false
+      pub none-doubled : doubledAttribute text attrs ≡ false
       none-doubled =
           doubled-none text noAttributeText attrs
           (λ i j g h q. let a = fits-at i (omega arith) .1 in let b = fits-at j h .1 in let c : i ≡ j = sym a ∙ (ap (standsAt text op) q ∙ b) in omega arith)

@@ -7,3 +7,5 @@ pub mod ReadLaw
 pub mod SomeLaw
 pub mod FitLaw
 pub mod RowLaw
+pub mod NamedLaw
+pub mod WholeLaw

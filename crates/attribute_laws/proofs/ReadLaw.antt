@@ -38,7 +38,7 @@ pub data ChoiceForm : ℕ → Type 0 where
   direction : ChoiceForm Direction
   compared : ChoiceForm CompareType
 
-choice-form : (k : ℕ) → ChoiceForm (choiceForm k)
+pub choice-form : (k : ℕ) → ChoiceForm (choiceForm k)
 unfolding choiceForm choiceKinds
 choice-form zero = direction
 choice-form (suc zero) = compared
@@ -143,6 +143,25 @@ module _ (text : List ℕ) where
         ∙ (ap (λ (f : ℕ). not (not (eqb f kind) || not (choiceFits text name kind)) && true) (sym (form-choice text name k) ∙ c)
         ∙ ap (λ (h : ℕ). not (not (eqb (valueKind text (named name (choiceText (tokenAfter 4 text name .start) (tokenAfter 5 text name .start)))) kind) || not (eqb (choiceKind h) kind)) && true) d))
 
+    chosen : {v : AttributeText} → Form text (tokenAt text name .end) v → 3 < formAt text name → ltb 0 (length (v .choices)) ≡ true
+    unfolding tokenAfter
+    chosen (number k) h = let e = form-number text name k in absurd (omega arith)
+    chosen (list k m) h = let e = form-list text name k in absurd (omega arith)
+    chosen (dense k) h = let e = form-dense text name k in absurd (omega arith)
+    chosen (choice k) h = refl
+
+    typed : {v : AttributeText} → Form text (tokenAt text name .end) v → formAt text name ≡ Dense → ltb 0 (length (v .types)) ≡ true
+    unfolding tokenAfter
+    typed (number k) h = let e = form-number text name k in absurd (omega arith)
+    typed (list k m) h = let e = form-list text name k in absurd (omega arith)
+    typed (dense k) h = refl
+    typed (choice k) h = absurd (by-form (choice-form (choiceAt text name .kind)) (sym (form-choice text name k) ∙ h))
+      where
+        by-form : {n : ℕ} → ChoiceForm n → n ≡ Dense → ⊥
+        by-form none e = omega arith
+        by-form direction e = omega arith
+        by-form compared e = omega arith
+
   -- ---- an attribute of one of the four forms
 
   module _ {name : ℕ} {a : AttributeText} (p : Formed text name a) where
@@ -162,6 +181,13 @@ module _ (text : List ℕ) where
 
     some-type : ltb 0 (length (a .types)) ≡ true → ltb 0 (length (p .value .types)) ≡ true
     some-type e = subst (λ (a : AttributeText). ltb 0 (length (a .types)) ≡ true) (p .whole) e
+
+    -- its value is a choice or a dense value by its kind
+    pub is-choice : 3 < formAt text name → ltb 0 (length (a .choices)) ≡ true
+    is-choice h = subst (λ (a : AttributeText). ltb 0 (length (a .choices)) ≡ true) (sym (p .whole)) (chosen name (p .form) h)
+
+    pub is-dense : formAt text name ≡ Dense → ltb 0 (length (a .types)) ≡ true
+    is-dense h = subst (λ (a : AttributeText). ltb 0 (length (a .types)) ≡ true) (sym (p .whole)) (typed name (p .form) h)
 
     -- its choice, where it is one
     pub choice-is : ltb 0 (length (a .choices)) ≡ true → choiceAt text name .choice ≡ choiceNumber text a
