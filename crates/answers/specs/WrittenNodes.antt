@@ -10,11 +10,11 @@ use Rattle.run.specs.Run.{Program}
 use Rattle.ops.specs.OpAttributes.{OpAttributes}
 use Rattle.ops.specs.Ops.{Node}
 use Rattle.ops.specs.declared.Kind.{Kind}
-use Rattle.optable.specs.Table.{ops, value, iotaDimension, broadcastDimensions, permutation, startIndices, strides, dimension, edgePaddingLow, interiorPadding, dimensions, comparisonDirection, directionAt}
+use Rattle.optable.specs.Table.{value, iotaDimension, broadcastDimensions, permutation, startIndices, strides, dimension, edgePaddingLow, interiorPadding, dimensions, comparisonDirection, directionAt}
 use Rattle.facts.specs.Facts.{kindBy, nodeType}
 use Rattle.nodes.specs.Nodes.{reducerAt}
 use Rattle.values.specs.declared.Value.{Value}
-use Rattle.source.specs.Source.{OpText, FunctionText, functionOf, bodyFrom}
+use Rattle.source.specs.Source.{OpText, FunctionText, opFrom, functionOf, bodyFrom}
 use Rattle.verifier.specs.AttributeRules.{attributeWith, choiceNamedBy, denseWritten}
 use Rattle.verifier.specs.DefinedValues.{inputsDefined, resultDefined}
 use Rattle.verifier.specs.BodyForm.{opNumber}
@@ -22,15 +22,10 @@ use Rattle.verifier.specs.Reasons.{valueOfName}
 use Rattle.verifier.specs.ConstraintRules.{operandTypesOf, resultTypeOf, listAttribute, numberAttribute}
 use Rattle.verifier.specs.Verdict.{rowWritten}
 
--- the place in the op table of the first of these ops
-abbrev pub firstOpNumber : List ℕ → List OpText → ℕ
-firstOpNumber text [] = length ops
-firstOpNumber text (op ∷ later) = opNumber text op
-
 -- what an op computes: the class of its row, with compare's direction and the op of a reduction's body
 unfoldable pub kindWritten : List ℕ → OpText → Kind
 kindWritten text op =
-    kindBy (directionAt (choiceNamedBy text comparisonDirection (op .attributes))) (reducerAt (firstOpNumber text (bodyFrom (getD (op .bodies) 0 []) .ops)))
+    kindBy (directionAt (choiceNamedBy text comparisonDirection (op .attributes))) (reducerAt (opNumber text (getD (bodyFrom (getD (op .bodies) 0 []) .ops) 0 (opFrom []))))
     (rowWritten text op .class)
 
 -- its attributes, by 000's names
