@@ -9,3 +9,4 @@ pub mod FitLaw
 pub mod RowLaw
 pub mod NamedLaw
 pub mod WholeLaw
+pub mod Theorems

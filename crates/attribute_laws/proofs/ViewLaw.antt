@@ -149,12 +149,22 @@ module _ (text : List ℕ) where
   unfolding depthAfter
   in-literal = of-each InLiteral literals (
     record { inner = record { level = refl; name = refl }; lists = λ s t l. refl },
-    (record { inner = record { level = refl; name = refl }; lists = λ s t l. refl },
-    (record { inner = record { level = refl; name = refl }; lists = λ s t l. refl },
-    (record { inner = record { level = refl; name = refl }; lists = λ s t l. refl },
-    (record { inner = record { level = refl; name = refl }; lists = λ s t l. refl },
-    (record { inner = record { level = refl; name = refl }; lists = λ s t l. refl },
-    (record { inner = record { level = refl; name = refl }; lists = λ s t l. refl }, tt))))))
+    (
+      record { inner = record { level = refl; name = refl }; lists = λ s t l. refl },
+      (
+        record { inner = record { level = refl; name = refl }; lists = λ s t l. refl },
+        (
+          record { inner = record { level = refl; name = refl }; lists = λ s t l. refl },
+          (
+            record { inner = record { level = refl; name = refl }; lists = λ s t l. refl },
+            (
+              record { inner = record { level = refl; name = refl }; lists = λ s t l. refl },
+              (record { inner = record { level = refl; name = refl }; lists = λ s t l. refl }, tt),
+            ),
+          ),
+        ),
+      ),
+    ),
   )
 
   record Literal (left at before : ℕ) (xs : List Reading) : Type 0 where
@@ -242,9 +252,10 @@ module _ (text : List ℕ) where
   in-list : (r : ℕ) → among (colon ∷ comma ∷ []) r ≡ true → InList r
   unfolding depthAfter leafKinds
   in-list =
-      of-each InList (colon ∷ comma ∷ [])
-      (record { inner = record { level = refl; name = refl }; lists = λ s a. refl; kind = λ k m. let z = only-kind colon COLON k refl m in rw z },
-      (record { inner = record { level = refl; name = refl }; lists = λ s a. refl; kind = λ k m. let z = only-kind comma COMMA k refl m in rw z }, tt))
+      of-each InList (colon ∷ comma ∷ []) (
+        record { inner = record { level = refl; name = refl }; lists = λ s a. refl; kind = λ k m. let z = only-kind colon COLON k refl m in rw z },
+        (record { inner = record { level = refl; name = refl }; lists = λ s a. refl; kind = λ k m. let z = only-kind comma COMMA k refl m in rw z }, tt),
+      )
 
   abbrev ListRead : ℕ → Type 0
   ListRead n = (at before : ℕ) (xs : List Reading) → length xs ≤ n → run 5 (rolesOf xs) ≡ 0 → Follow at xs → Numbered at before xs

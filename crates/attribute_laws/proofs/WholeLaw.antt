@@ -35,6 +35,7 @@ use Rattle.default_laws.proofs.NumbersLaw.{Listed, filled, written, ListStands}
 use Rattle.default_laws.proofs.NumbersLaw as lists
 use Rattle.attribute_laws.specs.Forms.{Marked, Form, Formed, number, list, dense, choice}
 use Rattle.attribute_laws.specs.Forms as forms
+use Rattle.attribute_laws.specs.AttributesRead.{wholes}
 use Rattle.attribute_laws.proofs.ReadLaw.{ChoiceForm, none, direction, compared, choice-form}
 use Rattle.attribute_laws.proofs.FormLaw.{form-number, form-list, form-dense, form-choice}
 
@@ -53,10 +54,6 @@ pub pattern-whole : (z : ℤ) → inType I64 z ≡ true → whole.numberOf (slot
 pattern-whole z e = pattern-value (slotOf z) ∙ slot-value I64 z e
 
 -- ---- lists
-
--- an attribute list as whole numbers
-abbrev pub wholes : Numbers → List ℤ
-wholes a = tab (a .count) (λ d. whole.numberOf (num a d))
 
 take-all : (vs zs : List ℕ) → take (length vs) (vs ++ zs) ≡ vs
 take-all [] zs = refl
