@@ -135,5 +135,6 @@ module _ (text : List ℕ) (op : Parts) (attrs : List AttributeText) (listed : P
       let i = is-dense text (s .written) (s .form ∙ value-dense) in
       let c = denseAt text (nameOf text op value) in
       let a = attributeWith text value attrs in
+      rw e (
       ap (λ (l : ℕ). denseValue (typeIn text (c .ty) .element) (dimsOf (typeIn text (c .ty) .shape)) text l .elements) (literal-is text (s .written) i)
-      ∙ ap (λ (t : ℕ). denseValue (typeIn text t .element) (dimsOf (typeIn text t .shape)) text (firstToken (a .literals)) .elements) (type-is text (s .written) i)
+      ∙ ap (λ (t : ℕ). denseValue (typeIn text t .element) (dimsOf (typeIn text t .shape)) text (firstToken (a .literals)) .elements) (type-is text (s .written) i))

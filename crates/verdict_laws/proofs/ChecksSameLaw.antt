@@ -81,6 +81,38 @@ all-required = refl
 pub required-is : (i : ℕ) → i < length ops → getD ops i noOp .required ≡ requiredBy (getD ops i noOp .rule)
 required-is i h = same-bytes (getD ops i noOp .required) (requiredBy (getD ops i noOp .rule)) (each-at (λ o. sameBytes (o .required) (requiredBy (o .rule))) ops all-required i h)
 
+-- a reduce alone has a body
+reduces : Rule → Bool
+reduces SameTypes = false
+reduces Abs = false
+reduces Broadcast = false
+reduces Clamp = false
+reduces Compare = false
+reduces Concatenate = false
+reduces Constant = false
+reduces Convert = false
+reduces DynamicSlice = false
+reduces Iota = false
+reduces Pad = false
+reduces Reduce = true
+reduces Reshape = false
+reduces Reverse = false
+reduces Select = false
+reduces Slice = false
+reduces Transpose = false
+
+implied : Bool → Bool → Bool
+implied true b = b
+implied false b = true
+
+all-bodies : each (λ o. implied (reduces (o .rule)) (o .body)) ops ≡ true
+unfolding each ops reduces implied
+all-bodies = refl
+
+pub body-is : (i : ℕ) → i < length ops → getD ops i noOp .rule ≡ Reduce → getD ops i noOp .body ≡ true
+unfolding reduces implied
+body-is i h e = let z = each-at (λ o. implied (reduces (o .rule)) (o .body)) ops all-bodies i h in rw e at z
+
 -- a list of numbers as whole numbers, and its first
 first-number : (a : Numbers) → numberOf (num a 0) ≡ getD (ints a) 0 (pos 0)
 first-number a = go (a .count) refl

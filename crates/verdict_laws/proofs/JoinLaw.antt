@@ -108,35 +108,35 @@ row-among at (o ∷ os) zero h = (at, refl)
 row-among at (o ∷ os) (suc i) h = row-among (at + length (o .name)) os i (le-of-suc-le-suc h)
 
 module _ (text : List ℕ) (read : textRefusal text .number ≡ 0) where
-  abbrev p : Program
+  abbrev pub p : Program
   p = programOf text
 
-  abbrev vs : Values
+  abbrev pub vs : Values
   vs = valuesIn text (programOf text)
 
   abbrev f : FunctionText
   f = functionOf text
 
   -- op k by its parts and by its lists
-  abbrev op : ℕ → Parts
+  abbrev pub op : ℕ → Parts
   op k = opAt text (opPlace text k)
 
-  abbrev o : ℕ → OpText
+  abbrev pub o : ℕ → OpText
   o k = getD (f .ops) k (opFrom [])
 
   short : length text ≤ 65536
   short = few-bytes text read
 
-  same : (k : ℕ) → k < p .count → SameParts (op k) (o k)
+  pub same : (k : ℕ) → k < p .count → SameParts (op k) (o k)
   same k h = same-parts text read k h (opFrom [])
 
   -- ---- the row of an op
 
-  number-same : (k : ℕ) → k < p .count → rowNamed text (placeOf (op k) opName 0) ≡ opNumber text (o k)
+  pub number-same : (k : ℕ) → k < p .count → rowNamed text (placeOf (op k) opName 0) ≡ opNumber text (o k)
   unfolding rowNamed
   number-same k h = rw (same k h .names .place 0 (omega arith)) refl
 
-  row-same : (k : ℕ) → k + 1 < p .count → (place : ℕ) × (rowOf text (op k) ≡ rowFor place (rowWritten text (o k)))
+  pub row-same : (k : ℕ) → k + 1 < p .count → (place : ℕ) × (rowOf text (op k) ≡ rowFor place (rowWritten text (o k)))
   unfolding rowOf rowAt inTable
   row-same k h =
       let n = number-same k (omega arith) in
