@@ -1,1 +1,2 @@
 pub mod SlotsLaw
+pub mod NodeSameLaw
