@@ -1,2 +1,3 @@
 pub mod SlotsLaw
 pub mod NodeSameLaw
+pub mod OpNodeLaw

@@ -58,7 +58,7 @@ kind-same d e b c class.Reduce f g = rw (g refl) refl
 -- ---- attributes
 
 -- of the attributes that evaluating reads: those that the ops of a class have
-abbrev readBy : Class → List ℕ
+abbrev pub readBy : Class → List ℕ
 readBy class.Constant = []
 readBy class.Iota = iotaDimension ∷ []
 readBy (class.Elementwise op) = []
@@ -79,7 +79,7 @@ readBy class.DynamicSlice = []
 readBy class.Reduce = dimensions ∷ []
 
 -- the nine of them
-abbrev readNames : List ℕ
+abbrev pub readNames : List ℕ
 readNames = iotaDimension ∷ dimension ∷ broadcastDimensions ∷ permutation ∷ startIndices ∷ strides ∷ edgePaddingLow ∷ interiorPadding ∷ dimensions ∷ []
 
 implied : Bool → Bool → Bool
@@ -87,17 +87,17 @@ implied true b = b
 implied false b = true
 
 -- of a row with these attributes: it has none of the names ns that are not among ks
-noOther : List ℕ → List ℕ → List ℕ → Bool
+unfoldable pub noOther : List ℕ → List ℕ → List ℕ → Bool
 noOther allowed ks [] = true
 noOther allowed ks (n ∷ ns) = implied (among allowed n) (among ks n) && noOther allowed ks ns
 
 -- the first of ks is its first attribute, the second its third
-placed : List ℕ → List ℕ → Bool
+unfoldable pub placed : List ℕ → List ℕ → Bool
 placed allowed [] = true
 placed allowed (k ∷ []) = eqb (getD allowed 0 noAttribute) k
 placed allowed (k ∷ (l ∷ ks)) = eqb (getD allowed 0 noAttribute) k && eqb (getD allowed 2 noAttribute) l
 
-rightRow : OpRow → Bool
+unfoldable pub rightRow : OpRow → Bool
 rightRow r = noOther (r .required ++ r .optional) (readBy (r .class)) readNames && placed (r .required ++ r .optional) (readBy (r .class))
 
 each : (OpRow → Bool) → List OpRow → Bool
@@ -220,3 +220,28 @@ module _ (N : ℕ → List ℤ) (allowed : List ℕ) (absent : (n : ℕ) → amo
   attributes-same class.Concatenate d b right at = of-concatenate right at
   attributes-same class.DynamicSlice d b right at = of-none right at
   attributes-same class.Reduce d b right at = of-reduce b right at
+
+-- a row of the class of reduce has a body
+isReduce : Class → Bool
+isReduce class.Constant = false
+isReduce class.Iota = false
+isReduce (class.Elementwise op) = false
+isReduce (class.Pairwise op) = false
+isReduce (class.Quotient op) = false
+isReduce class.Compare = false
+isReduce class.Convert = false
+isReduce class.Select = false
+isReduce class.Clamp = false
+isReduce (class.Moved m) = false
+isReduce class.Pad = false
+isReduce class.Concatenate = false
+isReduce class.DynamicSlice = false
+isReduce class.Reduce = true
+
+all-bodies : each (λ o. implied (isReduce (o .class)) (o .body)) ops ≡ true
+unfolding each isReduce implied ops
+all-bodies = refl
+
+pub class-body : (i : ℕ) → i < length ops → getD ops i noOp .class ≡ class.Reduce → getD ops i noOp .body ≡ true
+unfolding isReduce implied
+class-body i h e = let z = each-at (λ o. implied (isReduce (o .class)) (o .body)) ops all-bodies i h in rw e at z

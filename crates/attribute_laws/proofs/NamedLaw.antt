@@ -127,6 +127,10 @@ module _ (text : List ℕ) (op : Parts) (attrs : List AttributeText) (listed : P
       let i = is-dense text (s .written) (s .form ∙ c) in
       rw e (ap (typeIn text) (type-is text (s .written) i))
 
+  -- a constant has a dense value
+  pub dense-named : stands text op value ≡ true → ltb 0 (length (attributeWith text value attrs .types)) ≡ true
+  dense-named e = let s = stood value e in is-dense text (s .written) (s .form ∙ value-dense)
+
   -- the elements of a constant's dense value
   pub elements-named : stands text op value ≡ true → elementsOf text op ≡ denseWritten text (attributeWith text value attrs) .elements
   unfolding elementsOf

@@ -40,7 +40,7 @@ use Rattle.attribute_laws.proofs.ReadLaw.{form-is, choice-is, literal-i
 use Rattle.attribute_laws.proofs.SomeLaw.{length-map}
 use Rattle.attribute_laws.proofs.FitLaw.{attribute-count, attribute-place, attribute-number, piece, attributes-fit}
 use Rattle.attribute_laws.proofs.RowLaw.{row-named}
-use Rattle.attribute_laws.proofs.NamedLaw.{Stood, stood, gone, choice-named, type-named, elements-named, value-dense, direction-chosen, compared-chosen}
+use Rattle.attribute_laws.proofs.NamedLaw.{Stood, stood, gone, choice-named, type-named, elements-named, dense-named, value-dense, direction-chosen, compared-chosen}
 use Rattle.attribute_laws.proofs.WholeLaw.{numbers-whole}
 
 module _ (text : List ℕ) (read : textRefusal text .number ≡ 0) where
@@ -154,6 +154,8 @@ module _ (text : List ℕ) (read : textRefusal text .number ≡ 0) where
             compared = chosen compareType (let c = compared-chosen in omega arith);
             type = type-named text op-k attrs-k (alone-listed (opPlace text k)) formed-k (rowAt i) (getD ops i d .required) (getD ops i d .optional) (row-named i d g) fit _ value-dense;
             elements = elements-named text op-k attrs-k (alone-listed (opPlace text k)) formed-k (rowAt i) (getD ops i d .required) (getD ops i d .optional) (row-named i d g) fit;
+            dense = dense-named text op-k attrs-k (alone-listed (opPlace text k)) formed-k (rowAt i) (getD ops i d .required) (getD ops i d .optional) (row-named i d g) fit;
+            absent = gone text op-k attrs-k (alone-listed (opPlace text k)) formed-k (rowAt i) (getD ops i d .required) (getD ops i d .optional) (row-named i d g) fit value;
           }
 
       pub op-attributes-named : (e : OpText) → AttributesNamed text op-k (getD (functionOf text .ops) k e .attributes)

@@ -18,7 +18,7 @@ use Rattle.attribute.specs.Attribute.{formAt, choiceAt, denseAt}
 use Rattle.attributes.specs.Attributes.{attributeOf, stands, numbersOf, choiceOf, denseType}
 use Rattle.nodes.specs.Nodes.{elementsOf}
 use Rattle.source.specs.Source.{AttributeText}
-use Rattle.verifier.specs.AttributeRules.{firstToken, attributeNumber, choiceNumber, valueKind, typeWritten, denseWritten, attributeWith, numbersNamed, choiceNamedBy}
+use Rattle.verifier.specs.AttributeRules.{firstToken, noAttributeText, attributeNumber, choiceNumber, valueKind, typeWritten, denseWritten, attributeWith, numbersNamed, choiceNamedBy}
 
 -- attribute j of an op by its place and by its lists: the name, its number in the op table, the kind of the value; the choice, the literal and the type where there are such
 pub record AttributeRead (text : List ℕ) (op : Parts) (j : ℕ) (a : AttributeText) : Type 0 where
@@ -40,3 +40,5 @@ pub record AttributesNamed (text : List ℕ) (op : Parts) (attrs : List Attribut
   pub compared : choiceOf text op compareType ≡ choiceNamedBy text compareType attrs
   pub type : stands text op value ≡ true → denseType text op value ≡ typeWritten text (attributeWith text value attrs)
   pub elements : stands text op value ≡ true → elementsOf text op ≡ denseWritten text (attributeWith text value attrs) .elements
+  pub dense : stands text op value ≡ true → ltb 0 (length (attributeWith text value attrs .types)) ≡ true
+  pub absent : stands text op value ≡ false → attributeWith text value attrs ≡ noAttributeText

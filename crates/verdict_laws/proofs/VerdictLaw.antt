@@ -62,7 +62,7 @@ module _ (text : List ℕ) (read : textRefusal text .number ≡ 0) (k : ℕ) (h 
   number : rowNamed text (placeOf (op text read k) 0 0) ≡ i
   number = number-same text read k (omega arith)
 
-  inside : i < length ops
+  pub inside : i < length ops
   unfolding inTable
   inside = let z = ltb-true (rowNamed text (placeOf (op text read k) 0 0)) (length ops) (known-op text read k h) in rw number at z
 
@@ -70,11 +70,11 @@ module _ (text : List ℕ) (read : textRefusal text .number ≡ 0) (k : ℕ) (h 
   unfolding rowOf
   row-at = ap rowAt number
 
-  fit : attributesFit text (op text read k) (rowOf text (op text read k)) ≡ not (wrongAttribute text (r .required) (r .optional) o-k) && not (wrongDense text o-k)
+  pub fit : attributesFit text (op text read k) (rowOf text (op text read k)) ≡ not (wrongAttribute text (r .required) (r .optional) o-k) && not (wrongDense text o-k)
   fit = rw row-at (op-attributes-fit text read k h (opFrom []) i noOp inside)
 
   -- its body
-  one-body : length (o-k .bodies) ≡ 1 → SameBody text (placeOf (op text read k) bodyOpen 0) (getD (o-k .bodies) 0 [])
+  pub one-body : length (o-k .bodies) ≡ 1 → SameBody text (placeOf (op text read k) bodyOpen 0) (getD (o-k .bodies) 0 [])
   one-body one =
       let e = op-read text read k h (opFrom []) in
       subst (λ (t : OpText). length (t .bodies) ≡ 1 → SameBody text (placeOf (op text read k) bodyOpen 0) (getD (t .bodies) 0 [])) (sym e) (op-body text read k h) one
@@ -83,7 +83,7 @@ module _ (text : List ℕ) (read : textRefusal text .number ≡ 0) (k : ℕ) (h 
     abbrev parts : TypedParts text (op text read k) (rowOf text (op text read k)) (vs text read .list) (vs text read .inputs + k)
     parts = typed-parts text (op text read k) (rowOf text (op text read k)) (vs text read .list) (vs text read .inputs + k) typed
 
-    named : AttributesNamed text (op text read k) (o-k .attributes)
+    pub named : AttributesNamed text (op text read k) (o-k .attributes)
     named = op-attributes-named text read k h i noOp inside (rw row-at at (parts .attributes)) (opFrom [])
 
     row-is : (place : ℕ) × (rowOf text (op text read k) ≡ rowFor place r)
@@ -102,17 +102,20 @@ module _ (text : List ℕ) (read : textRefusal text .number ≡ 0) (k : ℕ) (h 
         let z = holds-at (row .needed) (λ s. stands text (op text read k) (neededAt row s)) needed 0 (rw n (omega arith)) in
         rw n at z
 
-    -- a reduce has its body
-    body-there : r .rule ≡ rule.Reduce → (r .body ≡ true) × (length (o-k .bodies) ≡ 1)
+    -- an op whose row has a body has one
+    pub bodies-one : r .body ≡ true → length (o-k .bodies) ≡ 1
     unfolding bodiesFit
-    body-there e =
-        let b : r .body ≡ true = body-is i inside e in
+    bodies-one b =
         let f : bodiesFit text (op text read k) row ≡ true = rw (row-is .1) at (parts .bodies) in
         let c = both-true (eqb (countOf (op text read k) bodyOpen) (pick (r .body) 1 0)) _ f .0 in
         let m : eqb (countOf (op text read k) bodyOpen) 1 ≡ true = rw b at c in
         let s = same text read k (omega arith) .bodies .count ∙ ap (λ (n : ℕ). min n 9) (length-map (o-k .bodies) firstPlace) in
         let q = eqb-true (countOf (op text read k) bodyOpen) 1 m in
-        (b, omega arith)
+        omega arith
+
+    -- a reduce has its body
+    body-there : r .rule ≡ rule.Reduce → (r .body ≡ true) × (length (o-k .bodies) ≡ 1)
+    body-there e = let b = body-is i inside e in (b, bodies-one b)
 
     written : Read text (op text read k) o-k (same text read k (omega arith)) r (row-is .0) (operands-long text (op text read k) o-k (same text read k (omega arith)) (vs text read .list) (vs text read .inputs + k) (parts .operands))
     unfolding bodyType
