@@ -1,3 +1,4 @@
 pub mod SlotsLaw
 pub mod NodeSameLaw
 pub mod OpNodeLaw
+pub mod AnswerLaw

@@ -87,6 +87,21 @@ no-foreign false true f k e = absurd (false≢true e)
 no-foreign false false true k e = absurd (false≢true e)
 no-foreign false false false k e = refl
 
+-- ---- operands
+
+pub operands-at : (text : List ℕ) (read : textRefusal text .number ≡ 0) (k : ℕ) → k < programOf text .count → (known : List Value) → KnownBefore (vs text read .list) (vs text read .inputs + k) known →
+    operandsOf text (op text read k) (vs text read .list) (vs text read .inputs + k) ≡ map (valueOfName text known) (o text read k .operands)
+unfolding operandsOf
+operands-at text read k h known before =
+    let s = same text read k h in
+    let f = s .operands .few in
+    let a = arity-is text (op text read k) (o text read k) s in
+    let names = o text read k .operands in
+    ap (λ (n : ℕ). tab n (λ j. valueNamed text (vs text read .list) (vs text read .inputs + k) (placeOf (op text read k) operandName j))) a
+    ∙ tab-cong (length names) (λ j. valueNamed text (vs text read .list) (vs text read .inputs + k) (placeOf (op text read k) operandName j)) (λ j. valueOfName text known (getD names j 0))
+    (λ j l. ap (valueNamed text (vs text read .list) (vs text read .inputs + k)) (s .operands .place j (omega arith)) ∙ value-same text (vs text read .list) known (vs text read .inputs + k) before (getD names j 0))
+    ∙ sym (map-tab (valueOfName text known) (length names) (λ j. getD names j 0)) ∙ ap (map (valueOfName text known)) (tab-getD names 0)
+
 -- ---- an op
 
 node-from : {a b : Kind} {r s : NodeType} {f g : List NodeType} {x y : OpAttributes} {v w : Tensor} {m n : List ℕ} → a ≡ b → r ≡ s → f ≡ g → x ≡ y → v ≡ w → m ≡ n →
@@ -172,15 +187,7 @@ module _ (text : List ℕ) (read : textRefusal text .number ≡ 0) (k : ℕ) (h 
       go false e = rw (e, attributes-read .absent e) refl
 
   operands-are : operandsOf text op-k (vs text read .list) (vs text read .inputs + k) ≡ map (valueOfName text known) (o-k .operands)
-  unfolding operandsOf
-  operands-are =
-      let s = same text read k (omega arith) in
-      let f = s .operands .few in
-      let a = arity-is text op-k o-k s in
-      ap (λ (n : ℕ). tab n (λ j. valueNamed text (vs text read .list) (vs text read .inputs + k) (placeOf op-k operandName j))) a
-      ∙ tab-cong (length (o-k .operands)) (λ j. valueNamed text (vs text read .list) (vs text read .inputs + k) (placeOf op-k operandName j)) (λ j. valueOfName text known (getD (o-k .operands) j 0))
-      (λ j l. ap (valueNamed text (vs text read .list) (vs text read .inputs + k)) (s .operands .place j (omega arith)) ∙ value-same text (vs text read .list) known (vs text read .inputs + k) before (getD (o-k .operands) j 0))
-      ∙ sym (map-tab (valueOfName text known) (length (o-k .operands)) (λ j. getD (o-k .operands) j 0)) ∙ ap (map (valueOfName text known)) (tab-getD (o-k .operands) 0)
+  operands-are = operands-at text read k (omega arith) known before
 
   pub node-same : nodeAt text (programOf text) (vs text read) k ≡ nodeWritten text known o-k
   unfolding nodeAt nodeWritten

@@ -31,7 +31,7 @@ sum-first zero f = omega arith
 sum-first (suc n) f = let z = sum-first n f in rw z (let w : f 0 + sumBelow n (λ i. f (suc i)) + f (suc n) ≡ f 0 + (sumBelow n (λ i. f (suc i)) + f (suc n)) = omega arith in w)
 
 -- the slots of the first n values of a list
-abbrev slotsBefore : List Value → ℕ → ℕ
+abbrev pub slotsBefore : List Value → ℕ → ℕ
 slotsBefore known n = sumBelow n (λ i. slotsOf (getD known i noValue))
 
 slots-summed : (known : List Value) → slotsOfAll known ≡ slotsBefore known (length known)

@@ -19,7 +19,7 @@ use Rattle.program.specs.declared.Parts.{Parts}
 use Rattle.program.specs.Parts.{noParts, partsFrom, opAt}
 use Rattle.program.specs.Program.{programOf}
 use Rattle.places.specs.Places.{attributeName, countOf, placeOf}
-use Rattle.optable.specs.Table.{Op, ops, rowAt, attributeKind, comparisonDirection, compareType}
+use Rattle.optable.specs.Table.{Op, ops, rowAt, attributeKind, comparisonDirection, compareType, value}
 use Rattle.attribute.specs.Attribute.{formAt}
 use Rattle.attributes.specs.Attributes.{attributeOf, stands, attributesFit, nameOf, numbersBy, numbersOf}
 use Rattle.source.specs.Source.{AttributeText, OpText, opFrom, functionOf}

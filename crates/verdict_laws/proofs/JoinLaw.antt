@@ -269,12 +269,12 @@ module _ (text : List ℕ) (read : textRefusal text .number ≡ 0) where
   counted = ops-count text read
 
   -- the values before the first op are the inputs; each op adds its result
-  known-first : KnownBefore (vs .list) (vs .inputs + 0) (inputsDefined text f)
+  pub known-first : KnownBefore (vs .list) (vs .inputs + 0) (inputsDefined text f)
   known-first =
       let n = values .inputs in
       record { count = omega arith; held = λ i h. sym (values .input i (omega arith) noValue) }
 
-  known-next : (k : ℕ) → k + 1 < p .count → (known : List Value) → KnownBefore (vs .list) (vs .inputs + k) known →
+  pub known-next : (k : ℕ) → k + 1 < p .count → (known : List Value) → KnownBefore (vs .list) (vs .inputs + k) known →
       KnownBefore (vs .list) (vs .inputs + suc k) (known ++ (resultDefined text (o k) ∷ []))
   known-next k h known before =
       let c = before .count in
@@ -301,12 +301,12 @@ module _ (text : List ℕ) (read : textRefusal text .number ≡ 0) where
     pub count : length rest ≡ left
     pub item : (j : ℕ) → getD rest j (opFrom []) ≡ o (k + j)
 
-  from-next : (k left : ℕ) (x : OpText) (rest : List OpText) → From k (suc left) (x ∷ rest) → From (suc k) left rest
+  pub from-next : (k left : ℕ) (x : OpText) (rest : List OpText) → From k (suc left) (x ∷ rest) → From (suc k) left rest
   from-next k left x rest w =
       let c : suc (length rest) ≡ suc left = w .count in
       record { count = omega arith; item = λ j. let z : k + suc j ≡ suc k + j = omega arith in w .item (suc j) ∙ ap o z }
 
-  from-here : (k left : ℕ) (x : OpText) (rest : List OpText) → From k left (x ∷ rest) → x ≡ o k
+  pub from-here : (k left : ℕ) (x : OpText) (rest : List OpText) → From k left (x ∷ rest) → x ≡ o k
   from-here k left x rest w = let z : k + 0 ≡ k = omega arith in w .item 0 ∙ ap o z
 
   code-next : (left k : ℕ) → opsFrom text p vs (suc left) k ≡ orLater (opRefusal text p vs k) (opsFrom text p vs left (suc k))

@@ -1,0 +1,160 @@
+-- The answer of the bench in the words of 01 is the one that the code works out, for every text, every input slice and every store; and demand 3 of it.
+-- Assumes nothing.
+use mathlib.Core.Path.{_≡_, refl, sym, ap, _∙_, subst}
+use mathlib.Core.List.{List, [], _∷_, _++_, map}
+use mathlib.Core.Option.{some}
+use mathlib.Core.Bool.{Bool, true, false, not}
+use Prim.Native.Nat.{ℕ, zero, suc, _+_, _-_, _<_, _≤_}
+use native.Mathlib.Nat.{not-suc-le-zero, le-of-suc-le-suc}
+use native.Mathlib.Omega.{arith}
+use lib.Dec.{eqb, ltb, leb}
+use lib.ListN.{length, getD, take}
+use borrow.Author.Tests.{eqb-true, leb-true, leb-false}
+use Rattle.lists.specs.Lists.{pick, tab, concat, firstWhere}
+use Rattle.lists.proofs.TabLaw.{tab-cong, getD-tab}
+use Rattle.element.specs.declared.ElementType.{ElementType}
+use Rattle.element.specs.declared.ElementType.the-variants.{I1}
+use Rattle.element.specs.Types.{isValue}
+use Rattle.elementwise.specs.Elementwise.{Tensor}
+use Rattle.dimrules.specs.Count.{firstFailing, everywhere}
+use Rattle.dimrules.proofs.CountLaw.{holds-at}
+use Rattle.checks.proofs.CheckLaw.{first-facts, first-none}
+use Rattle.run.specs.Run.{Program, Answer, End, ended, resultsOf}
+use Rattle.run.specs.Tree.{Tree}
+use Rattle.run.specs.Ways.{OrderOf, TreesAllowed, freeRun, evaluation}
+use Rattle.ops.specs.Ops.{Node, hlo}
+use Rattle.ops.specs.Typed.{StartsAtIdentity}
+use Rattle.judge.specs.declared.Refusal.{Refusal}
+use Rattle.judge.specs.Judge.{textRefusal, refuse}
+use Rattle.program.specs.Program.{programOf}
+use Rattle.values.specs.declared.Value.{Value}
+use Rattle.values.specs.Values.{noValue, opsOf, valuesIn, valuesOf}
+use Rattle.offsets.specs.Offsets.{sizeAt, offsetAt, neededOf}
+use Rattle.offsets.proofs.OffsetsLaw.{offset-next, offset-le}
+use Rattle.layout.specs.Layout.{valueIn, tensorsIn}
+use Rattle.inputs.specs.Inputs.{inputSlots, inputOf, slotFits, firstForeign}
+use Rattle.verify.specs.Verify.{programRefusal, verdict}
+use Rattle.nodes.specs.Nodes.{nodeAt, nodesIn, nodesOf}
+use Rattle.nodes.proofs.VerdictLaw.{both-zero}
+use Rattle.nodes.proofs.AcceptedLaw.{accepted-count, accepted-stands, op-accepted}
+use Rattle.evaluation.specs.Evaluated.{Evaluated, answer, tensorsOf, evaluationOf, refusalOf, storeAfter, ran, fitted, evaluated}
+use Rattle.evaluation.specs.Order.{Claimed, OrderFreeAnswer}
+use Rattle.source.specs.Source.{OpText, opFrom, functionOf}
+use Rattle.verifier.specs.DefinedValues.{inputsDefined, resultDefined}
+use Rattle.verifier.specs.Reasons.{valueOfName}
+use Rattle.verifier.specs.Verdict.{verdictOf}
+use Rattle.source_laws.specs.ListedValues.{SameValues}
+use Rattle.source_laws.proofs.SameLaw.{ops-count}
+use Rattle.source_laws.proofs.HeaderLaw.{same-header}
+use Rattle.source_laws.proofs.ValuesLaw.{same-values, with-length}
+use Rattle.verdict_laws.proofs.TypedSameLaw.{KnownBefore}
+use Rattle.verdict_laws.proofs.JoinLaw.{p, vs, op, o, known-first, known-next, From, from-next, from-here}
+use Rattle.verdict_laws.proofs.VerdictLaw.{verdict-same}
+use Rattle.answers.specs.WrittenNodes.{nodeWritten, nodesWritten, definedAfter, returnedNames, valuesWritten, programWritten}
+use Rattle.answers.specs.Answered.{slotsOf, slotsOfAll, tensorsFrom, slotTypes, inputsWritten, unfitSlot, evaluationWritten, answerAccepted, answerOf}
+use Rattle.answers.specs.FreeRuns.{AnswerStands, FreeOfOrder}
+use Rattle.answers.proofs.SlotsLaw.{slotsBefore, before-same, slots-same, tensors-same, slot-type}
+use Rattle.answers.proofs.OpNodeLaw.{operands-at, node-same}
+
+-- ---- a search over numbers
+
+first-alike : (t u : ℕ → Bool) (n : ℕ) (f : ℕ → ℕ) → ((i : ℕ) → i < n → t (f i) ≡ u (f i)) → firstWhere t (tab n f) ≡ firstWhere u (tab n f)
+unfolding firstWhere
+first-alike t u zero f h = refl
+first-alike t u (suc n) f h = rw (h 0 (omega arith), first-alike t u n (λ i. f (suc i)) (λ i q. h (suc i) (omega arith))) refl
+
+module _ (text : List ℕ) (accepted : verdict text .number ≡ 0) where
+  read : textRefusal text .number ≡ 0
+  unfolding verdict
+  read = both-zero (textRefusal text .number) (programRefusal text (programOf text) (valuesIn text (programOf text))) (textRefusal text) refl accepted .0
+
+  count : opsOf (programOf text) + 1 ≡ programOf text .count
+  count = accepted-count text accepted
+
+  values : SameValues text (vs text read) (functionOf text)
+  values = same-values text read
+
+  -- ---- the ops
+
+  node-at : (k : ℕ) → k + 1 < programOf text .count → (known : List Value) → KnownBefore (vs text read .list) (vs text read .inputs + k) known →
+      nodeAt text (programOf text) (vs text read) k ≡ nodeWritten text known (o text read k)
+  node-at k h known before =
+      let c = count in
+      node-same text read k h (accepted-stands text accepted k (omega arith) .typed) (op-accepted text accepted k (omega arith) .shaped) known before
+
+  nodes-from : (left k : ℕ) → suc left + k ≡ programOf text .count → (known : List Value) → KnownBefore (vs text read .list) (vs text read .inputs + k) known →
+      (rest : List OpText) → From text read k (suc left) rest → tab left (λ j. nodeAt text (programOf text) (vs text read) (k + j)) ≡ nodesWritten text known rest
+  unfolding nodesWritten
+  nodes-from left k e known before [] w = absurd (let c : 0 ≡ suc left = w .count in omega arith)
+  nodes-from zero k e known before (x ∷ []) w = refl
+  nodes-from zero k e known before (x ∷ (y ∷ rest)) w = absurd (let c : suc (suc (length rest)) ≡ 1 = w .count in omega arith)
+  nodes-from (suc left) k e known before (x ∷ []) w = absurd (let c : 1 ≡ suc (suc left) = w .count in omega arith)
+  nodes-from (suc left) k e known before (x ∷ (y ∷ rest)) w =
+      let here = from-here text read k (suc (suc left)) x (y ∷ rest) w in
+      let next = from-next text read k (suc left) x (y ∷ rest) w in
+      let head : nodeAt text (programOf text) (vs text read) (k + 0) ≡ nodeWritten text known x =
+          (let z : k + 0 ≡ k = omega arith in ap (λ (m : ℕ). nodeAt text (programOf text) (vs text read) m) z) ∙ node-at k (omega arith) known before ∙ ap (nodeWritten text known) (sym here) in
+      let later : tab left (λ j. nodeAt text (programOf text) (vs text read) (suc k + j)) ≡ nodesWritten text (known ++ (resultDefined text (o text read k) ∷ [])) (y ∷ rest) =
+          nodes-from left (suc k) (omega arith) (known ++ (resultDefined text (o text read k) ∷ [])) (known-next text read k (omega arith) known before) (y ∷ rest) next in
+      let tail : tab left (λ j. nodeAt text (programOf text) (vs text read) (k + suc j)) ≡ nodesWritten text (known ++ (resultDefined text x ∷ [])) (y ∷ rest) =
+          tab-cong left (λ j. nodeAt text (programOf text) (vs text read) (k + suc j)) (λ j. nodeAt text (programOf text) (vs text read) (suc k + j))
+          (λ j q. let z : k + suc j ≡ suc k + j = omega arith in ap (λ (m : ℕ). nodeAt text (programOf text) (vs text read) m) z)
+          ∙ later ∙ ap (λ (t : OpText). nodesWritten text (known ++ (resultDefined text t ∷ [])) (y ∷ rest)) (sym here) in
+      rw (head, tail) refl
+
+  -- the values after all ops, and what the return names
+  after-known : (left k : ℕ) → suc left + k ≡ programOf text .count → (known : List Value) → KnownBefore (vs text read .list) (vs text read .inputs + k) known →
+      (rest : List OpText) → From text read k (suc left) rest → KnownBefore (vs text read .list) (vs text read .inputs + (k + left)) (definedAfter text known rest) × (returnedNames rest ≡ o text read (k + left) .operands)
+  unfolding definedAfter
+  after-known left k e known before [] w = absurd (let c : 0 ≡ suc left = w .count in omega arith)
+  after-known zero k e known before (x ∷ []) w =
+      let z : k ≡ k + 0 = omega arith in
+      (subst (λ (m : ℕ). KnownBefore (vs text read .list) (vs text read .inputs + m) known) z before, ap (λ (t : OpText). t .operands) (from-here text read k 1 x [] w) ∙ ap (λ (m : ℕ). o text read m .operands) z)
+  after-known zero k e known before (x ∷ (y ∷ rest)) w = absurd (let c : suc (suc (length rest)) ≡ 1 = w .count in omega arith)
+  after-known (suc left) k e known before (x ∷ []) w = absurd (let c : 1 ≡ suc (suc left) = w .count in omega arith)
+  after-known (suc left) k e known before (x ∷ (y ∷ rest)) w =
+      let here = from-here text read k (suc (suc left)) x (y ∷ rest) w in
+      let z : suc k + left ≡ k + suc left = omega arith in
+      let later = after-known left (suc k) (omega arith) (known ++ (resultDefined text (o text read k) ∷ [])) (known-next text read k (omega arith) known before) (y ∷ rest) (from-next text read k (suc left) x (y ∷ rest) w) in
+      (subst (λ (t : OpText). KnownBefore (vs text read .list) (vs text read .inputs + (k + suc left)) (definedAfter text (known ++ (resultDefined text t ∷ [])) (y ∷ rest))) (sym here)
+      (subst (λ (m : ℕ). KnownBefore (vs text read .list) (vs text read .inputs + m) (definedAfter text (known ++ (resultDefined text (o text read k) ∷ [])) (y ∷ rest))) z (later .0)),
+      later .1 ∙ ap (λ (m : ℕ). o text read m .operands) z)
+
+  whole : From text read 0 (suc (opsOf (programOf text))) (functionOf text .ops)
+  whole = let c = count in let n = ops-count text read in record { count = omega arith; item = λ j. let z : j ≡ 0 + j = omega arith in ap (o text read) z }
+
+  ended-known : KnownBefore (vs text read .list) (vs text read .inputs + opsOf (programOf text)) (valuesWritten text) × (returnedNames (functionOf text .ops) ≡ o text read (opsOf (programOf text)) .operands)
+  unfolding valuesWritten
+  ended-known =
+      let c = count in
+      let r = after-known (opsOf (programOf text)) 0 (omega arith) (inputsDefined text (functionOf text)) (known-first text read) (functionOf text .ops) whole in
+      let z : 0 + opsOf (programOf text) ≡ opsOf (programOf text) = omega arith in
+      (subst (λ (m : ℕ). KnownBefore (vs text read .list) (vs text read .inputs + m) (definedAfter text (inputsDefined text (functionOf text)) (functionOf text .ops))) z (r .0), r .1 ∙ ap (λ (m : ℕ). o text read m .operands) z)
+
+  inputs-known : KnownBefore (vs text read .list) (vs text read .inputs) (inputsWritten text)
+  unfolding inputsWritten
+  inputs-known = let z : vs text read .inputs + 0 ≡ vs text read .inputs = omega arith in subst (λ (m : ℕ). KnownBefore (vs text read .list) m (inputsDefined text (functionOf text))) z (known-first text read)
+
+  all-known : KnownBefore (vs text read .list) (vs text read .count) (valuesWritten text)
+  all-known =
+      let a = values .inputs in
+      let b = values .count in
+      let c = count in
+      let n = ops-count text read in
+      let z : vs text read .inputs + opsOf (programOf text) ≡ vs text read .count = omega arith in
+      subst (λ (m : ℕ). KnownBefore (vs text read .list) m (valuesWritten text)) z (ended-known .0)
+
+  pub program-same : nodesOf text ≡ programWritten text
+  unfolding nodesOf nodesIn programWritten inputsDefined
+  program-same =
+      let s = same-header text read in
+      let n : vs text read .inputs ≡ length (functionOf text .inputs) = values .inputs ∙ with-length text (functionOf text .inputs) (functionOf text .inputTypes) (s .even) in
+      let c = count in
+      let ops : tab (opsOf (programOf text)) (nodeAt text (programOf text) (vs text read)) ≡ nodesWritten text (inputsDefined text (functionOf text)) (functionOf text .ops) =
+          tab-cong (opsOf (programOf text)) (nodeAt text (programOf text) (vs text read)) (λ j. nodeAt text (programOf text) (vs text read) (0 + j)) (λ j q. let z : j ≡ 0 + j = omega arith in ap (λ (m : ℕ). nodeAt text (programOf text) (vs text read) m) z)
+          ∙ nodes-from (opsOf (programOf text)) 0 (omega arith) (inputsDefined text (functionOf text)) (known-first text read) (functionOf text .ops) whole in
+      let returns = operands-at text read (opsOf (programOf text)) (omega arith) (valuesWritten text) (ended-known .0) ∙ ap (map (valueOfName text (valuesWritten text))) (sym (ended-known .1)) in
+      three n ops returns
+    where
+      three : {a b : ℕ} {x y : List Node} {r s : List ℕ} → a ≡ b → x ≡ y → r ≡ s → _≡_ {A = Program Node} (record { inputs = a; ops = x; returns = r }) (record { inputs = b; ops = y; returns = s })
+      three e1 e2 e3 = rw (e1, e2, e3) refl
