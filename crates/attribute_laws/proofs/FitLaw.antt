@@ -2,14 +2,14 @@
 -- kind; a dense value of other sizes, kind or range than its type".
 -- Assumes nothing.
 use mathlib.Core.Path.{_≡_, refl, sym, ap, subst, _∙_}
-use mathlib.Core.List.{List, [], _∷_, _++_, map}
+use mathlib.Core.List.{List, _++_, map}
 use mathlib.Core.Bool.{Bool, true, false, not, _&&_, _||_}
-use Prim.Native.Nat.{ℕ, zero, suc, _+_, _<_, _≤_, min}
+use Prim.Native.Nat.{ℕ, zero, suc, _<_, _≤_, min}
 use native.Mathlib.Omega.{arith}
-use lib.Dec.{T, ltb, eqb, eqb→eq}
+use lib.Dec.{ltb, eqb}
 use lib.ListN.{length, getD}
 use borrow.Author.Tests.{eqb-true, eq-eqb, ne-eqb, ltb-true, ltb-false, lt-ltb}
-use Rattle.lists.specs.Lists.{pick, tab, firstWhere, All}
+use Rattle.lists.specs.Lists.{tab, firstWhere, All}
 use Rattle.lists.proofs.AllLaw.{all-get}
 use Rattle.lists.proofs.TestLaw.{both-true}
 use Rattle.lists.proofs.TabLaw.{length-tab, getD-tab}
@@ -22,18 +22,17 @@ use Rattle.optable.specs.declared.Row.{Row}
 use Rattle.dimrules.specs.Count.{everywhere}
 use Rattle.program.specs.declared.Parts.{Parts}
 use Rattle.places.specs.Places.{attributeName, countOf, placeOf}
-use Rattle.attributes.specs.Attributes.{attributesOf, attributeOf, standsAt, stands, kindFits, columns, attributeFits, neededAt, attributesFit}
+use Rattle.attributes.specs.Attributes.{attributesOf, attributeOf, standsAt, stands, kindFits, attributeFits, neededAt, attributesFit}
 use Rattle.attributes.proofs.AttributesLaw.{Sought, seek-none, seek-next, seek-here, attributes-few, attributes-each, attributes-needed}
-use Rattle.source.specs.Source.{AttributeText, OpText}
+use Rattle.source.specs.Source.{AttributeText}
 use Rattle.verifier.specs.AttributeRules.{firstToken, someOf, attributeNumber, noAttributeText, missingAttribute, doubledAttribute, foreignAttribute, otherKind, unfitDense}
-use Rattle.verifier.specs.Reasons.{wrongAttribute, wrongDense}
 use Rattle.source_laws.specs.Listed.{PartListed}
 use Rattle.default_laws.proofs.AttributeLaw.{few-attributes, stands-there}
 use Rattle.default_laws.proofs.DenseLaw.{not-both}
-use Rattle.attribute_laws.specs.Forms.{Formed}
+use Rattle.attribute_laws.specs.ValueForms.{FormedAttribute}
 use Rattle.attribute_laws.proofs.PiecesLaw.{Piece}
-use Rattle.attribute_laws.proofs.ReadLaw.{number-named, kind-fits-is}
-use Rattle.attribute_laws.proofs.SomeLaw.{neither, none-of-two, same-test, not-false-true, not-true-false, some-false, some-none, length-map, get-map, among-false, among-none, doubled-false, doubled-none, everywhere-all, first-within}
+use Rattle.attribute_laws.proofs.ReadLaw.{kind-fits-is}
+use Rattle.attribute_laws.proofs.SomeLaw.{neither, same-test, not-false-true, not-true-false, some-false, some-none, length-map, get-map, among-false, among-none, doubled-false, doubled-none, everywhere-all, first-within}
 
 -- a row of the op table and the attributes that must stand and may stand
 pub record RowNames (row : Row) (required optional : List ℕ) : Type 0 where
@@ -68,7 +67,7 @@ module _ (text : List ℕ) (op : Parts) (attrs : List AttributeText) (listed : P
   unfolding attributeOf
   attribute-number j h = ap (λ (at : ℕ). findAttribute text at (tokenAt text at .end)) (attribute-place j h)
 
-  pub piece : (j : ℕ) → j < length attrs → Formed text (firstToken (attr j .names)) (attr j)
+  pub piece : (j : ℕ) → j < length attrs → FormedAttribute text (firstToken (attr j .names)) (attr j)
   piece j h = all-get (Piece text) attrs noAttributeText formed j h
 
   -- ---- where an attribute stands

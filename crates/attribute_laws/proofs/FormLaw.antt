@@ -14,7 +14,7 @@ use Rattle.text.specs.declared.Token.{Token}
 use Rattle.grammar.specs.Symbols.{END, WORD, NUMBER, FUNC, DIALECT, TYPE, ARROW, OTHER, ARRAY, DENSE, BOOLEAN, I64, TOKEN, TUPLE, LPAREN, RPAREN, LBRACE, RBRACE, LANGLE, RANGLE, LBRACKET, RBRACKET, COMMA, COLON, EQUALS, among}
 use Rattle.syntax.specs.Kinds.{markKind, nameKind, wordKind, quotedKind, tokenKind, kindOf}
 use Rattle.optable.specs.Table.{Numbers as NumberList, Number, Dense, choiceForm}
-use Rattle.attribute.specs.Attribute.{tokenAfter, valueAt, wordForm, choiceAt, formAt, endsLiteral}
+use Rattle.attribute.specs.Attribute.{valueAt, wordForm, choiceAt, formAt}
 use Rattle.default_laws.proofs.DenseLaw.{not-both}
 
 -- kinds of the grammar, and the kind in the text of a token that has one of them

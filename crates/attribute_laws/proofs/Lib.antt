@@ -10,3 +10,4 @@ pub mod RowLaw
 pub mod NamedLaw
 pub mod WholeLaw
 pub mod Theorems
+pub mod BlankLaw

@@ -2,7 +2,7 @@
 -- Assumes nothing.
 use mathlib.Core.Path.{_≡_, refl, sym, ap, subst, _∙_}
 use mathlib.Core.List.{List, [], _∷_, map}
-use mathlib.Core.Bool.{Bool, true, false, _&&_}
+use mathlib.Core.Bool.{Bool, true, false}
 use Prim.Native.Nat.{ℕ, zero, suc, _<_}
 use native.Mathlib.Nat.{not-suc-le-zero, le-of-suc-le-suc}
 use native.Mathlib.Omega.{arith}
@@ -12,27 +12,24 @@ use borrow.Author.Tests.{eqb-true, eq-eqb, ne-eqb}
 use Rattle.lists.specs.Lists.{pick, firstWhere, All}
 use Rattle.lists.proofs.TestLaw.{both-true}
 use Rattle.shape.specs.Dims.{dimsOf}
-use Rattle.text.specs.Lex.{tokenAt}
 use Rattle.dense.specs.Dense.{denseValue}
-use Rattle.dimrules.specs.declared.TensorType.{TensorType}
 use Rattle.optable.specs.Table.{Dense, Direction, CompareType, attributes, attributeNames, attributeKind, noChoice, value, comparisonDirection, compareType}
 use Rattle.optable.specs.Find.{placeIn, same}
 use Rattle.optable.specs.declared.Row.{Row}
 use Rattle.program.specs.declared.Parts.{Parts}
 use Rattle.places.specs.Places.{attributeName, placeOf, typeIn}
 use Rattle.attribute.specs.Attribute.{formAt, choiceAt, denseAt}
-use Rattle.attributes.specs.Attributes.{attributesOf, attributeOf, standsAt, stands, kindFits, attributesFit, nameOf, choiceOf, denseType}
+use Rattle.attributes.specs.Attributes.{standsAt, stands, kindFits, attributesFit, nameOf, choiceOf, denseType}
 use Rattle.nodes.specs.Nodes.{elementsOf}
 use Rattle.source.specs.Source.{AttributeText}
-use Rattle.verifier.specs.AttributeRules.{firstToken, attributeNumber, choiceNumber, valueKind, typeWritten, denseWritten, noAttributeText, attributeWith, choiceNamedBy}
+use Rattle.verifier.specs.AttributeRules.{firstToken, attributeNumber, choiceNumber, typeWritten, denseWritten, noAttributeText, attributeWith, choiceNamedBy}
 use Rattle.source_laws.specs.Listed.{PartListed}
 use Rattle.default_laws.proofs.AttributeLaw.{stands-there, kind-fits}
-use Rattle.default_laws.proofs.DenseLaw.{not-both}
-use Rattle.attribute_laws.specs.Forms.{Form, Formed, number, list, dense, choice}
+use Rattle.attribute_laws.specs.ValueForms.{FormedAttribute, choice}
 use Rattle.attribute_laws.proofs.PiecesLaw.{Piece}
-use Rattle.attribute_laws.proofs.ReadLaw.{form-is, choice-is, literal-is, type-is, is-choice, is-dense}
+use Rattle.attribute_laws.proofs.ReadLaw.{choice-is, literal-is, type-is, is-choice, is-dense}
 use Rattle.attribute_laws.proofs.SomeLaw.{doubled-false}
-use Rattle.attribute_laws.proofs.FitLaw.{RowNames, attributes-are, attribute-number, attribute-place, piece, stands-nowhere, all-told, few, none-doubled}
+use Rattle.attribute_laws.proofs.FitLaw.{RowNames, attribute-number, attribute-place, piece, stands-nowhere, all-told, few, none-doubled}
 
 -- the kinds of the attributes that are not numbers
 pub value-dense : attributeKind value ≡ Dense
@@ -72,7 +69,7 @@ module _ (text : List ℕ) (op : Parts) (attrs : List AttributeText) (listed : P
     pub below : place < length attrs
     pub few : place < 8
     pub name : nameOf text op k ≡ placeOf op attributeName place
-    pub written : Formed text (nameOf text op k) (attributeWith text k attrs)
+    pub written : FormedAttribute text (nameOf text op k) (attributeWith text k attrs)
     pub form : formAt text (nameOf text op k) ≡ attributeKind k
 
   pub stood : (k : ℕ) → stands text op k ≡ true → Stood k
@@ -88,9 +85,9 @@ module _ (text : List ℕ) (op : Parts) (attrs : List AttributeText) (listed : P
       let w : attributeWith text k attrs ≡ getD attrs j noAttributeText =
       with-at text k attrs j h q (λ i g z. doubled-false text noAttributeText attrs d i j g h (z ∙ sym q)) in
       let n : nameOf text op k ≡ placeOf op attributeName j = rw e in
-      let p : Formed text (nameOf text op k) (attributeWith text k attrs) =
-      subst (λ (n : ℕ). Formed text n (attributeWith text k attrs)) (sym (n ∙ attribute-place text op attrs listed formed j f))
-      (subst (λ (a : AttributeText). Formed text (firstToken (getD attrs j noAttributeText .names)) a) (sym w) (piece text op attrs listed formed j h)) in
+      let p : FormedAttribute text (nameOf text op k) (attributeWith text k attrs) =
+      subst (λ (n : ℕ). FormedAttribute text n (attributeWith text k attrs)) (sym (n ∙ attribute-place text op attrs listed formed j f))
+      (subst (λ (a : AttributeText). FormedAttribute text (firstToken (getD attrs j noAttributeText .names)) a) (sym w) (piece text op attrs listed formed j h)) in
       record {
         place = j;
         below = h;

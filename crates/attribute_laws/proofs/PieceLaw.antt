@@ -2,20 +2,20 @@
 -- Assumes nothing.
 use mathlib.Core.Path.{_≡_, refl, sym, ap, subst, _∙_}
 use mathlib.Core.List.{List, [], _∷_}
-use mathlib.Core.Bool.{Bool, true, false, not, _&&_}
-use Prim.Native.Nat.{ℕ, zero, suc, _+_, _-_, _<_, _≤_}
+use mathlib.Core.Bool.{Bool, true, false, _&&_}
+use Prim.Native.Nat.{ℕ, zero, suc, _+_, _-_, _<_}
 use native.Mathlib.Omega.{arith}
-use lib.Dec.{T, eqb, eqb→eq}
-use borrow.Author.Tests.{eqb-true, eqb-false, ne-eqb}
+use lib.Dec.{T, eqb}
+use borrow.Author.Tests.{eqb-true, eqb-false}
 use Rattle.lists.specs.Lists.{pick}
 use Rattle.scan.specs.Bytes.{among}
 use Rattle.grammar.specs.Symbols.{AttributeName, SingleNumber, ListNumber, ChoiceKind, Choice, ElementLiteral, DenseOpen, DenseType, BodyOpen, BodyClose, among as amongSymbols}
-use Rattle.syntax.specs.Readings.{Reading, reading}
+use Rattle.syntax.specs.Readings.{Reading}
 use Rattle.syntax.specs.Roles.{rolesOf}
 use Rattle.program.specs.Parts.{depthAfter}
 use Rattle.source.specs.Source.{withRole, Cut, cutFrom, AttributeText, attributeFrom}
 use Rattle.verifier.specs.AttributeRules.{noAttributeText}
-use Rattle.grammar.proofs.TableTest.{both, both-left, both-right, or, or-cases, T-true}
+use Rattle.grammar.proofs.TableTest.{both-left, both-right, or, or-cases, T-true}
 use Rattle.grammar.proofs.Within.{allPass}
 use Rattle.attribute_laws.proofs.ValueRun.{inside, next, run, stuck, next-run, outside-only}
 

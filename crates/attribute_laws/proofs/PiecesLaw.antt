@@ -3,31 +3,31 @@
 use mathlib.Core.Path.{_≡_, refl, sym, ap, subst, _∙_}
 use mathlib.Core.List.{List, [], _∷_, map}
 use mathlib.Core.Bool.{Bool, true, false, _&&_}
-use Prim.Native.Nat.{ℕ, zero, suc, _+_, _<_, _≤_}
+use Prim.Native.Nat.{ℕ, zero, suc, _+_, _≤_}
 use native.Mathlib.Omega.{arith}
-use lib.Dec.{T, eqb}
-use lib.ListN.{length, getD}
+use lib.Dec.{eqb}
+use lib.ListN.{length}
 use borrow.Author.Tests.{eqb-true}
 use Rattle.lists.specs.Lists.{pick, All}
 use Rattle.text.specs.Lex.{tokenAt}
 use Rattle.text.specs.declared.Token.{Token}
-use Rattle.grammar.specs.Symbols.{AttributeName, Op, matches}
+use Rattle.grammar.specs.Symbols.{AttributeName, Op}
 use Rattle.grammar.specs.Machine.{Cell, fails, skips, takes, step}
-use Rattle.grammar.specs.Leaves.{Yields, StandFor}
+use Rattle.grammar.specs.Leaves.{StandFor}
 use Rattle.syntax.specs.Kinds.{kindOf}
 use Rattle.syntax.specs.Tokens.{kindsOf}
-use Rattle.syntax.specs.Readings.{Reading, reading, labelled, readingsFrom, readingsOf}
+use Rattle.syntax.specs.Readings.{Reading, labelled, readingsFrom, readingsOf}
 use Rattle.syntax.specs.Roles.{rolesOf, tokensOf}
 use Rattle.syntax.specs.OpsAlone.{OpAlone}
 use Rattle.syntax.proofs.AloneLaw.{token-again, readings-short}
 use Rattle.program.specs.Parts.{depthAfter}
-use Rattle.source.specs.Source.{Cut, cutFrom, AttributeText, attributeFrom, OpText, opFrom}
+use Rattle.source.specs.Source.{Cut, cutFrom, AttributeText, attributeFrom, opFrom}
 use Rattle.verifier.specs.AttributeRules.{firstToken}
 use Rattle.default_laws.proofs.DenseLaw.{stand-first}
-use Rattle.attribute_laws.specs.Forms.{Form, Formed}
+use Rattle.attribute_laws.specs.ValueForms.{ValueForm, FormedAttribute}
 use Rattle.attribute_laws.proofs.ValueRun.{next, run, next-run, outside-only, op-run}
 use Rattle.attribute_laws.proofs.PieceLaw.{atName, upToName, withToken, flat, token-first}
-use Rattle.attribute_laws.proofs.ViewLaw.{Follow, Viewed, after-name}
+use Rattle.attribute_laws.proofs.ViewLaw.{Follow, after-name}
 
 -- the pieces at the attributes' names
 abbrev pub piecesFrom : ℕ → ℕ → List Reading → List (List Reading)
@@ -57,7 +57,7 @@ flat-name d r p q = rw (p, q)
 module _ (text : List ℕ) where
   -- a piece has one of the four forms
   abbrev pub Piece : AttributeText → Type 0
-  Piece a = Formed text (firstToken (a .names)) a
+  Piece a = FormedAttribute text (firstToken (a .names)) a
 
   named-piece : (at : ℕ) (x : Reading) (xs : List Reading) → x .role ≡ AttributeName → x .token ≡ tokenAt text at → length xs ≤ length text →
       run 1 (rolesOf xs) ≡ 0 → Follow text (tokenAt text at .end) xs → Piece (attributeFrom (x ∷ upToName (x .role) 0 xs))
@@ -68,16 +68,16 @@ module _ (text : List ℕ) where
       let a : attributeFrom (x ∷ upToName (x .role) 0 xs) ≡ withToken AttributeName (x .token .start) (v .value) =
       token-first x (upToName (x .role) 0 xs) g ∙ (ap (λ (n : ℕ). withToken n (x .token .start) (attributeFrom (upToName (x .role) 0 xs))) r ∙ ap (withToken AttributeName (x .token .start)) (v .lists)) in
       let q : tokenAt text (x .token .start) ≡ tokenAt text at = ap (λ (u : Token). tokenAt text (u .start)) t ∙ token-again text at in
-      let form : Form text (tokenAt text (x .token .start) .end) (v .value) = subst (λ (u : Token). Form text (u .end) (v .value)) (sym q) (v .form) in
+      let form : ValueForm text (tokenAt text (x .token .start) .end) (v .value) = subst (λ (u : Token). ValueForm text (u .end) (v .value)) (sym q) (v .form) in
       subst Piece (sym a) (named (x .token .start) (v .value) form)
     where
-      no-names : {at : ℕ} {v : AttributeText} → Form text at v → v .names ≡ []
-      no-names (Rattle.attribute_laws.specs.Forms.number k) = refl
-      no-names (Rattle.attribute_laws.specs.Forms.list k m) = refl
-      no-names (Rattle.attribute_laws.specs.Forms.dense k) = refl
-      no-names (Rattle.attribute_laws.specs.Forms.choice k) = refl
+      no-names : {at : ℕ} {v : AttributeText} → ValueForm text at v → v .names ≡ []
+      no-names (Rattle.attribute_laws.specs.ValueForms.number k) = refl
+      no-names (Rattle.attribute_laws.specs.ValueForms.list k m) = refl
+      no-names (Rattle.attribute_laws.specs.ValueForms.dense k) = refl
+      no-names (Rattle.attribute_laws.specs.ValueForms.choice k) = refl
 
-      named : (start : ℕ) (v : AttributeText) → Form text (tokenAt text start .end) v → Piece (withToken AttributeName start v)
+      named : (start : ℕ) (v : AttributeText) → ValueForm text (tokenAt text start .end) v → Piece (withToken AttributeName start v)
       named start v form = record { value = v; form = form; whole = rw (no-names form) }
 
   pieces-formed : (s depth before at : ℕ) (xs : List Reading) → length xs ≤ length text + 1 → run s (rolesOf xs) ≡ 0 → Follow text at xs →

@@ -5,26 +5,22 @@ use mathlib.Core.List.{List, [], _∷_}
 use mathlib.Core.Bool.{Bool, true, false, not, _&&_, _||_}
 use Prim.Native.Nat.{ℕ, zero, suc, _<_}
 use native.Mathlib.Omega.{arith}
-use lib.Dec.{T, ltb, eqb}
-use lib.ListN.{length, getD}
+use lib.Dec.{ltb, eqb}
+use lib.ListN.{length}
 use borrow.Author.Tests.{eqb-true}
 use Rattle.lists.specs.Lists.{pick}
-use Rattle.shape.specs.Dims.{dimsOf}
 use Rattle.text.specs.Lex.{tokenAt}
 use Rattle.text.specs.declared.Token.{Token}
 use Rattle.grammar.proofs.TableTest.{up-to}
 use Rattle.syntax.proofs.AloneLaw.{token-again}
-use Rattle.dense.specs.Dense.{denseValue}
-use Rattle.dimrules.specs.declared.TensorType.{TensorType}
-use Rattle.places.specs.Places.{typeIn}
 use Rattle.optable.specs.Table.{Numbers, Number, Dense, Direction, CompareType, noKind, noAttribute, attributes, attributeKind, choiceKinds, choiceForm, choiceKind}
-use Rattle.optable.specs.Find.{findAttribute, findChoiceKind, findChoice}
+use Rattle.optable.specs.Find.{findChoiceKind, findChoice}
 use Rattle.attribute.specs.Attribute.{tokenAfter, formAt, choiceAt, denseAt}
 use Rattle.attributes.specs.Attributes.{choiceFits, denseFits, kindFits}
 use Rattle.source.specs.Source.{AttributeText}
-use Rattle.verifier.specs.AttributeRules.{firstToken, attributeNumber, choiceNumber, valueKind, typeWritten, denseWritten, otherKind, unfitDense}
+use Rattle.verifier.specs.AttributeRules.{firstToken, attributeNumber, choiceNumber, valueKind, denseWritten, otherKind, unfitDense}
 use Rattle.default_laws.proofs.DenseLaw.{not-both, no-T}
-use Rattle.attribute_laws.specs.Forms.{choiceText, Form, Formed, number, list, dense, choice}
+use Rattle.attribute_laws.specs.ValueForms.{choiceText, ValueForm, FormedAttribute, number, list, dense, choice}
 use Rattle.attribute_laws.proofs.FormLaw.{form-number, form-choice, form-list, form-dense}
 
 -- an attribute's kind is one of the five
@@ -95,7 +91,7 @@ module _ (text : List ℕ) where
       record { names = name ∷ []; single = v .single; listed = v .listed; kinds = v .kinds; choices = v .choices; literals = v .literals; types = v .types }
 
   module _ (name : ℕ) where
-    kind-by : {v : AttributeText} → Form text (tokenAt text name .end) v → formAt text name ≡ valueKind text (named name v)
+    kind-by : {v : AttributeText} → ValueForm text (tokenAt text name .end) v → formAt text name ≡ valueKind text (named name v)
     unfolding tokenAfter choiceAt
     kind-by (number k) = form-number text name k
     kind-by (list k m) = form-list text name k
@@ -104,7 +100,7 @@ module _ (text : List ℕ) where
         let t = tokenAfter 4 text name in
         form-choice text name k ∙ ap (λ (u : Token). choiceForm (findChoiceKind text (t .start) (u .end))) (sym (after-again 4 name))
 
-    choice-by : {v : AttributeText} → Form text (tokenAt text name .end) v → ltb 0 (length (v .choices)) ≡ true → choiceAt text name .choice ≡ choiceNumber text (named name v)
+    choice-by : {v : AttributeText} → ValueForm text (tokenAt text name .end) v → ltb 0 (length (v .choices)) ≡ true → choiceAt text name .choice ≡ choiceNumber text (named name v)
     unfolding tokenAfter choiceAt
     choice-by (number k) e = absurd (not-both e refl)
     choice-by (list k m) e = absurd (not-both e refl)
@@ -113,7 +109,7 @@ module _ (text : List ℕ) where
         let t = tokenAfter 5 text name in
         ap (λ (u : Token). findChoice text (t .start) (u .end)) (sym (after-again 5 name))
 
-    dense-by : {v : AttributeText} → Form text (tokenAt text name .end) v → ltb 0 (length (v .types)) ≡ true →
+    dense-by : {v : AttributeText} → ValueForm text (tokenAt text name .end) v → ltb 0 (length (v .types)) ≡ true →
         (denseAt text name .literal ≡ firstToken (v .literals)) × (denseAt text name .ty ≡ firstToken (v .types))
     unfolding tokenAfter denseAt
     dense-by (number k) e = absurd (not-both e refl)
@@ -124,7 +120,7 @@ module _ (text : List ℕ) where
     abbrev rest : ℕ → Bool
     rest kind = pick (eqb kind Dense) (denseFits text name) (pick (eqb kind Direction) (choiceFits text name kind) (pick (eqb kind CompareType) (choiceFits text name kind) true))
 
-    fits-by : (kind : ℕ) → eqb kind noKind ≡ false → {v : AttributeText} → Form text (tokenAt text name .end) v → kindFits text name kind ≡
+    fits-by : (kind : ℕ) → eqb kind noKind ≡ false → {v : AttributeText} → ValueForm text (tokenAt text name .end) v → kindFits text name kind ≡
         not (not (eqb (valueKind text (named name v)) kind) || (ltb 0 (length (v .choices)) && not (eqb (choiceKind (choiceNumber text (named name v))) kind))) &&
         not (ltb 0 (length (v .types)) && not (denseWritten text (named name v) .ok))
     unfolding kindFits choiceFits denseFits tokenAfter denseAt choiceAt
@@ -143,14 +139,14 @@ module _ (text : List ℕ) where
         ∙ (ap (λ (f : ℕ). not (not (eqb f kind) || not (choiceFits text name kind)) && true) (sym (form-choice text name k) ∙ c)
         ∙ ap (λ (h : ℕ). not (not (eqb (valueKind text (named name (choiceText (tokenAfter 4 text name .start) (tokenAfter 5 text name .start)))) kind) || not (eqb (choiceKind h) kind)) && true) d))
 
-    chosen : {v : AttributeText} → Form text (tokenAt text name .end) v → 3 < formAt text name → ltb 0 (length (v .choices)) ≡ true
+    chosen : {v : AttributeText} → ValueForm text (tokenAt text name .end) v → 3 < formAt text name → ltb 0 (length (v .choices)) ≡ true
     unfolding tokenAfter
     chosen (number k) h = let e = form-number text name k in absurd (omega arith)
     chosen (list k m) h = let e = form-list text name k in absurd (omega arith)
     chosen (dense k) h = let e = form-dense text name k in absurd (omega arith)
     chosen (choice k) h = refl
 
-    typed : {v : AttributeText} → Form text (tokenAt text name .end) v → formAt text name ≡ Dense → ltb 0 (length (v .types)) ≡ true
+    typed : {v : AttributeText} → ValueForm text (tokenAt text name .end) v → formAt text name ≡ Dense → ltb 0 (length (v .types)) ≡ true
     unfolding tokenAfter
     typed (number k) h = let e = form-number text name k in absurd (omega arith)
     typed (list k m) h = let e = form-list text name k in absurd (omega arith)
@@ -164,14 +160,7 @@ module _ (text : List ℕ) where
 
   -- ---- an attribute of one of the four forms
 
-  module _ {name : ℕ} {a : AttributeText} (p : Formed text name a) where
-    pub name-first : firstToken (a .names) ≡ name
-    name-first = ap (λ (a : AttributeText). firstToken (a .names)) (p .whole)
-
-    -- its number in the op table
-    pub number-named : findAttribute text name (tokenAt text name .end) ≡ attributeNumber text a
-    number-named = ap (λ (at : ℕ). findAttribute text at (tokenAt text at .end)) (sym name-first)
-
+  module _ {name : ℕ} {a : AttributeText} (p : FormedAttribute text name a) where
     -- its kind
     pub form-is : formAt text name ≡ valueKind text a
     form-is = kind-by name (p .form) ∙ ap (valueKind text) (sym (p .whole))

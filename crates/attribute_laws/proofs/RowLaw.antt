@@ -1,15 +1,15 @@
 -- The rows of the op table by the attributes of each op: those that must stand first, then those that may be absent.
 -- Assumes nothing.
-use mathlib.Core.Path.{_≡_, refl, sym, ap, subst, _∙_}
+use mathlib.Core.Path.{refl}
 use mathlib.Core.List.{List, [], _∷_, _++_}
-use mathlib.Core.Bool.{Bool, true, false, _&&_}
-use Prim.Native.Nat.{ℕ, zero, suc, _+_, _<_, _≤_}
+use mathlib.Core.Bool.{Bool, true, _&&_}
+use Prim.Native.Nat.{ℕ, zero, suc, _+_, _<_}
 use native.Mathlib.Nat.{not-suc-le-zero, le-of-suc-le-suc}
 use native.Mathlib.Omega.{arith}
 use lib.Dec.{T, ltb, eqb, eqb→eq, ltb→lt}
 use lib.ListN.{length, getD}
 use borrow.Author.Tests.{lt-ltb}
-use Rattle.lists.specs.Lists.{pick, firstWhere}
+use Rattle.lists.specs.Lists.{firstWhere}
 use Rattle.scan.specs.Bytes.{among}
 use Rattle.grammar.proofs.TableTest.{both, both-left, both-right, implies, implied, upTo, up-to, true-T}
 use Rattle.optable.specs.Table.{Op, ops, rowOf, rowsFrom, rowAt, noRow, noAttribute, attributes, attributeNames}

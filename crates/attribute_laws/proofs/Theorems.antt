@@ -4,26 +4,25 @@
 use mathlib.Core.Path.{_≡_, refl, sym, ap, subst, _∙_}
 use mathlib.Core.List.{List, [], _∷_, map}
 use mathlib.Core.Bool.{Bool, true, false, not, _&&_, _||_}
-use Prim.Native.Nat.{ℕ, zero, suc, _+_, _-_, _<_, min}
+use Prim.Native.Nat.{ℕ, _+_, _<_, min}
 use native.Mathlib.Omega.{arith}
 use lib.Dec.{eqb}
 use lib.ListN.{length, getD}
 use borrow.Author.Tests.{ne-eqb}
-use Rattle.lists.specs.Lists.{pick, All}
-use Rattle.text.specs.Lex.{tokenAt}
+use Rattle.lists.specs.Lists.{All}
 use Rattle.grammar.specs.Symbols.{OpName, Op as OpSymbol}
-use Rattle.syntax.specs.Readings.{Reading, readingsOf}
+use Rattle.syntax.specs.Readings.{readingsOf}
 use Rattle.syntax.specs.OpsAlone.{OpAlone}
 use Rattle.judge.specs.Judge.{textRefusal}
 use Rattle.program.specs.declared.Parts.{Parts}
 use Rattle.program.specs.Parts.{noParts, partsFrom, opAt}
 use Rattle.program.specs.Program.{programOf}
 use Rattle.places.specs.Places.{attributeName, countOf, placeOf}
-use Rattle.optable.specs.Table.{Op, ops, rowAt, attributeKind, comparisonDirection, compareType, value}
+use Rattle.optable.specs.Table.{Op, ops, rowAt, comparisonDirection, compareType, value}
 use Rattle.attribute.specs.Attribute.{formAt}
-use Rattle.attributes.specs.Attributes.{attributeOf, stands, attributesFit, nameOf, numbersBy, numbersOf}
+use Rattle.attributes.specs.Attributes.{stands, attributesFit, nameOf, numbersBy, numbersOf, denseType}
 use Rattle.source.specs.Source.{AttributeText, OpText, opFrom, functionOf}
-use Rattle.verifier.specs.AttributeRules.{firstToken, someOf, noAttributeText, attributeNumber, numbersWritten, numbersNamed, attributeWith, doubledAttribute, otherKind}
+use Rattle.verifier.specs.AttributeRules.{firstToken, someOf, noAttributeText, numbersWritten, numbersNamed, typeWritten, attributeWith, doubledAttribute, otherKind}
 use Rattle.verifier.specs.Reasons.{wrongAttribute, wrongDense}
 use Rattle.reading_laws.proofs.OpsLaw.{read-program}
 use Rattle.source_laws.specs.Listed.{PartListed}
@@ -33,7 +32,7 @@ use Rattle.source_laws.proofs.CutLaw.{attribute-names}
 use Rattle.source_laws.proofs.SameLaw.{op-parts, op-read, same-parts}
 use Rattle.default_laws.proofs.NumberLaw.{number-in-range}
 use Rattle.default_laws.proofs.NumbersLaw.{list-written, list-read}
-use Rattle.attribute_laws.specs.Forms.{Formed}
+use Rattle.attribute_laws.specs.ValueForms.{FormedAttribute}
 use Rattle.attribute_laws.specs.AttributesRead.{AttributeRead, wholes, AttributesNamed}
 use Rattle.attribute_laws.proofs.PiecesLaw.{Piece, attributes-formed}
 use Rattle.attribute_laws.proofs.ReadLaw.{form-is, choice-is, literal-is, type-is}
@@ -41,6 +40,7 @@ use Rattle.attribute_laws.proofs.SomeLaw.{length-map}
 use Rattle.attribute_laws.proofs.FitLaw.{attribute-count, attribute-place, attribute-number, piece, attributes-fit}
 use Rattle.attribute_laws.proofs.RowLaw.{row-named}
 use Rattle.attribute_laws.proofs.NamedLaw.{Stood, stood, gone, choice-named, type-named, elements-named, dense-named, value-dense, direction-chosen, compared-chosen}
+use Rattle.attribute_laws.proofs.BlankLaw.{no-type-first}
 use Rattle.attribute_laws.proofs.WholeLaw.{numbers-whole}
 
 module _ (text : List ℕ) (read : textRefusal text .number ≡ 0) where
@@ -70,8 +70,8 @@ module _ (text : List ℕ) (read : textRefusal text .number ≡ 0) where
     pub attribute-read : (j : ℕ) → j < 8 → j < length attrs → AttributeRead text op j (getD attrs j noAttributeText)
     attribute-read j h l =
         let n = attribute-place text op attrs (alone-listed at) formed j h in
-        let p : Formed text (placeOf op attributeName j) (getD attrs j noAttributeText) =
-        subst (λ (n : ℕ). Formed text n (getD attrs j noAttributeText)) (sym n) (piece text op attrs (alone-listed at) formed j l) in
+        let p : FormedAttribute text (placeOf op attributeName j) (getD attrs j noAttributeText) =
+        subst (λ (n : ℕ). FormedAttribute text n (getD attrs j noAttributeText)) (sym n) (piece text op attrs (alone-listed at) formed j l) in
         record {
           name = n;
           number = attribute-number text op attrs (alone-listed at) formed j h;
@@ -104,12 +104,12 @@ module _ (text : List ℕ) (read : textRefusal text .number ≡ 0) where
     counted : (j : ℕ) → j < 8 → j < length attrs-k → j < countOf op-k attributeName
     counted j m l = let c = attribute-count text op-k attrs-k (alone-listed (opPlace text k)) formed-k in omega arith
 
-    numbers-at : (j : ℕ) → j < 8 → j < length attrs-k → (name : ℕ) → name ≡ placeOf op-k attributeName j → (a : AttributeText) → Formed text name a →
+    numbers-at : (j : ℕ) → j < 8 → j < length attrs-k → (name : ℕ) → name ≡ placeOf op-k attributeName j → (a : AttributeText) → FormedAttribute text name a →
         wholes (numbersBy text name (formAt text name)) ≡ numbersWritten text a
     numbers-at j m l name e a p =
         subst (λ (n : ℕ). wholes (numbersBy text n (formAt text n)) ≡ numbersWritten text a) (sym e)
         (numbers-whole text (placeOf op-k attributeName j) (number-in-range text read k h j (counted j m l) m) (list-written text read k h j (counted j m l) m)
-        (list-read text read k h j (counted j m l) m) (subst (λ (n : ℕ). Formed text n a) e p))
+        (list-read text read k h j (counted j m l) m) (subst (λ (n : ℕ). FormedAttribute text n a) e p))
 
     -- the numbers of attribute j, as they are written
     pub attribute-numbers : (j : ℕ) → j < 8 → j < length attrs-k →
@@ -117,7 +117,7 @@ module _ (text : List ℕ) (read : textRefusal text .number ≡ 0) where
     attribute-numbers j m l =
         let e = attribute-place text op-k attrs-k (alone-listed (opPlace text k)) formed-k j m in
         numbers-at j m l (placeOf op-k attributeName j) refl (getD attrs-k j noAttributeText)
-        (subst (λ (n : ℕ). Formed text n (getD attrs-k j noAttributeText)) (sym e) (piece text op-k attrs-k (alone-listed (opPlace text k)) formed-k j l))
+        (subst (λ (n : ℕ). FormedAttribute text n (getD attrs-k j noAttributeText)) (sym e) (piece text op-k attrs-k (alone-listed (opPlace text k)) formed-k j l))
 
     -- the attributes fit row i of the op table where none of the reasons holds
     pub op-attributes-fit : (e : OpText) (i : ℕ) (d : Op) → i < length ops → attributesFit text op-k (rowAt i) ≡
@@ -145,6 +145,17 @@ module _ (text : List ℕ) (read : textRefusal text .number ≡ 0) where
               let z = gone text op-k attrs-k (alone-listed (opPlace text k)) formed-k (rowAt i) (getD ops i d .required) (getD ops i d .optional) (row-named i d g) fit n e in
               rw e (sym (ap (numbersWritten text) z))
 
+      -- where none stands, `tensor<i1>`: no type is written at the first byte
+      dense-type : denseType text op-k value ≡ typeWritten text (attributeWith text value attrs-k)
+      unfolding denseType
+      dense-type = by-test (stands text op-k value) refl
+        where
+          by-test : (b : Bool) → stands text op-k value ≡ b → denseType text op-k value ≡ typeWritten text (attributeWith text value attrs-k)
+          by-test true e = type-named text op-k attrs-k (alone-listed (opPlace text k)) formed-k (rowAt i) (getD ops i d .required) (getD ops i d .optional) (row-named i d g) fit value value-dense e
+          by-test false e =
+              let z = gone text op-k attrs-k (alone-listed (opPlace text k)) formed-k (rowAt i) (getD ops i d .required) (getD ops i d .optional) (row-named i d g) fit value e in
+              rw e (sym (no-type-first text read) ∙ sym (ap (typeWritten text) z))
+
       named-alone : AttributesNamed text op-k attrs-k
       named-alone =
           let chosen = choice-named text op-k attrs-k (alone-listed (opPlace text k)) formed-k (rowAt i) (getD ops i d .required) (getD ops i d .optional) (row-named i d g) fit in
@@ -152,7 +163,7 @@ module _ (text : List ℕ) (read : textRefusal text .number ≡ 0) where
             numbers = numbers-named;
             direction = chosen comparisonDirection (let c = direction-chosen in omega arith);
             compared = chosen compareType (let c = compared-chosen in omega arith);
-            type = type-named text op-k attrs-k (alone-listed (opPlace text k)) formed-k (rowAt i) (getD ops i d .required) (getD ops i d .optional) (row-named i d g) fit _ value-dense;
+            type = dense-type;
             elements = elements-named text op-k attrs-k (alone-listed (opPlace text k)) formed-k (rowAt i) (getD ops i d .required) (getD ops i d .optional) (row-named i d g) fit;
             dense = dense-named text op-k attrs-k (alone-listed (opPlace text k)) formed-k (rowAt i) (getD ops i d .required) (getD ops i d .optional) (row-named i d g) fit;
             absent = gone text op-k attrs-k (alone-listed (opPlace text k)) formed-k (rowAt i) (getD ops i d .required) (getD ops i d .optional) (row-named i d g) fit value;

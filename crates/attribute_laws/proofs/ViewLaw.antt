@@ -5,7 +5,7 @@ use mathlib.Core.List.{List, [], _∷_}
 use mathlib.Core.Bool.{Bool, true, false, not}
 use Prim.Native.Nat.{ℕ, zero, suc, _+_, _<_, _≤_}
 use native.Mathlib.Omega.{arith}
-use lib.Dec.{T, eqb}
+use lib.Dec.{eqb}
 use lib.ListN.{length, getD}
 use borrow.Author.Tests.{eqb-true}
 use Rattle.lists.specs.Lists.{pick, All}
@@ -16,20 +16,19 @@ use Rattle.grammar.specs.Symbols.{END, NUMBER, RANGLE, COMMA, COLON, ARRAY, DEN
 use Rattle.grammar.proofs.TableTest.{true-T}
 use Rattle.grammar.proofs.Within.{member-passes}
 use Rattle.syntax.specs.Kinds.{markKind, tokenKind, kindOf}
-use Rattle.syntax.specs.Readings.{Reading, reading}
+use Rattle.syntax.specs.Readings.{Reading}
 use Rattle.syntax.specs.Roles.{rolesOf}
 use Rattle.syntax.proofs.KindLaw.{is-end}
 use Rattle.syntax.proofs.AloneLaw.{token-again}
 use Rattle.program.specs.Parts.{depthAfter}
 use Rattle.attribute.specs.Attribute.{tokenAfter, endsLiteral, closeFrom}
 use Rattle.source.specs.Source.{AttributeText, attributeFrom}
-use Rattle.verifier.specs.AttributeRules.{noAttributeText}
 use Rattle.default_laws.proofs.DenseLaw.{not-both, no-T}
-use Rattle.attribute_laws.specs.Forms.{numberText, listText, denseText, choiceText, Marked, closed, typeAfter, Form, Formed}
-use Rattle.attribute_laws.specs.Forms as forms
+use Rattle.attribute_laws.specs.ValueForms.{singleText, listedText, denseText, choiceText, Marked, closed, denseTypeAt, ValueForm}
+use Rattle.attribute_laws.specs.ValueForms as forms
 use Rattle.attribute_laws.proofs.ValueRun.{next, run, stuck, next-run}
 use Rattle.attribute_laws.proofs.FormLaw.{kind-told}
-use Rattle.attribute_laws.proofs.PieceLaw.{upToName, after-value, withToken, flat, token-first, token-more}
+use Rattle.attribute_laws.proofs.PieceLaw.{upToName, after-value, withToken, flat, token-more}
 
 -- a role that tokens of one kind have
 only-kind : (r n k : ℕ) → getD leafKinds r [] ≡ n ∷ [] → matches r k ≡ true → k ≡ n
@@ -241,7 +240,7 @@ module _ (text : List ℕ) where
   record Numbered (at before : ℕ) (xs : List Reading) : Type 0 where
     starts : List ℕ
     marks : Marked text at starts
-    lists : attributeFrom (upToName before 0 xs) ≡ listText starts
+    lists : attributeFrom (upToName before 0 xs) ≡ listedText starts
 
   -- a mark of the list
   record InList (r : ℕ) : Type 0 where
@@ -302,7 +301,7 @@ module _ (text : List ℕ) where
 
   pub record Viewed (at before : ℕ) (xs : List Reading) : Type 0 where
     pub value : AttributeText
-    pub form : Form text at value
+    pub form : ValueForm text at value
     pub lists : attributeFrom (upToName before 0 xs) ≡ value
 
   -- after `=`
@@ -320,7 +319,7 @@ module _ (text : List ℕ) where
     unfolding depthAfter leafKinds tokenAfter
     one-number z e =
         record {
-          value = numberText (tokenAt text mid .start);
+          value = singleText (tokenAt text mid .start);
           form = forms.number (kind-is SingleNumber NUMBER z refl);
           lists = with-role before SingleNumber mid x xs z (record { level = refl; name = refl }) (f .0)
               ∙ ap (withToken SingleNumber (tokenAt text mid .start)) (after-value SingleNumber xs e);
@@ -333,7 +332,7 @@ module _ (text : List ℕ) where
         let b = one 4 5 i64 (tokenAt text after .end) langle (a .others) (λ r. refl) (omega arith) (record { level = refl; name = refl }) (a .runs) (a .follow) in
         let m = numbered (length (b .others)) (tokenAt text (tokenAt text after .end) .end) i64 (b .others) (omega arith) (b .runs) (b .follow) in
         record {
-          value = listText (m .starts);
+          value = listedText (m .starts);
           form = forms.list (kind-is array ARRAY z refl) (m .marks);
           lists = with-role before array mid x xs z (record { level = refl; name = refl }) (f .0) ∙ (a .lists ∙ (b .lists ∙ m .lists));
         }
@@ -366,7 +365,7 @@ module _ (text : List ℕ) where
         let m = first-literal (length text) t langle (a .others) (omega arith) (a .runs) (a .follow) in
         let c : closeFrom (length text) text (tokenAt text t .start) ≡ closeFrom (length text) text t = close-again (length text) t (omega arith) in
         record {
-          value = denseText (tokenAt text t .start ∷ m .more) (typeAfter text (tokenAt text t .start));
+          value = denseText (tokenAt text t .start ∷ m .more) (denseTypeAt text (tokenAt text t .start));
           form = forms.dense (kind-is dense DENSE z refl);
           lists = with-role before dense mid x xs z (record { level = refl; name = refl }) (f .0)
               ∙ (a .lists ∙ (m .lists ∙ ap (λ (c : ℕ). denseText (tokenAt text t .start ∷ m .more) (tokenAfter 1 text c .start)) (sym c)));

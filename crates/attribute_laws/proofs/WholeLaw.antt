@@ -1,28 +1,25 @@
 -- The numbers of an attribute that are read, as whole numbers, are those that are written (01, Sizes, 6: "An attribute list has at most 6 numbers", and 7: "An attribute
 -- number outside `dense` lies in the signed 64-bit range").
 -- Assumes nothing.
-use mathlib.Core.Path.{_≡_, refl, sym, ap, subst, _∙_}
+use mathlib.Core.Path.{_≡_, refl, sym, ap, _∙_}
 use mathlib.Core.List.{List, [], _∷_, _++_, map}
-use mathlib.Core.Bool.{Bool, true, false, _&&_}
-use Prim.Native.Nat.{ℕ, zero, suc, _-_, _^_, _<_, _≤_}
+use mathlib.Core.Bool.{Bool, true, false}
+use Prim.Native.Nat.{ℕ, suc, _-_, _^_}
 use native.Mathlib.Omega.{arith}
-use lib.Dec.{ltb, leb, eqb}
+use lib.Dec.{ltb, leb}
 use lib.IntN.{ℤ, pos, negsuc}
-use lib.ListN.{length, getD, take, set, replicate}
+use lib.ListN.{length, getD, take, replicate}
 use borrow.Author.Tests.{ltb-true, ltb-false, le-leb, lt-leb}
 use Rattle.lists.specs.Lists.{pick, tab}
 use Rattle.lists.proofs.TabLaw.{tab-getD, map-tab}
 use Rattle.shape.specs.Index.{at}
 use Rattle.text.specs.Lex.{tokenAt}
-use Rattle.element.specs.Types.{slotOf, signedOf, valueOf}
+use Rattle.element.specs.Types.{slotOf, valueOf}
 use Rattle.element.specs.declared.ElementType.the-variants.{I64}
 use Rattle.types.specs.Numbers.{numberOf, inType}
 use Rattle.types.proofs.NumberLaw.{slot-value}
-use Rattle.grammar.specs.Symbols.{RANGLE, COMMA, COLON, among}
-use Rattle.syntax.specs.Kinds.{kindOf}
+use Rattle.grammar.specs.Symbols.{COMMA, COLON, among}
 use Rattle.dimrules.specs.Whole as whole
-use Rattle.dimrules.specs.Dims.{num, listOf, noNumbers}
-use Rattle.dimrules.specs.declared.Numbers.{Numbers}
 use Rattle.optable.specs.Table.{Numbers as NumberList, Number}
 use Rattle.attribute.specs.Attribute.{tokenAfter, valueAt, formAt, numberAt, numbersAt, choiceAt}
 use Rattle.attribute.specs.declared.Numbers.{Numbers as ReadNumbers}
@@ -30,11 +27,11 @@ use Rattle.attributes.specs.Attributes.{numbersBy}
 use Rattle.source.specs.Source.{AttributeText}
 use Rattle.verifier.specs.AttributeRules.{numbersWritten}
 use Rattle.default_laws.proofs.DenseLaw.{not-both}
-use Rattle.default_laws.proofs.NumberLaw.{Fits, pattern-written, NumberStands}
+use Rattle.default_laws.proofs.NumberLaw.{pattern-written, NumberStands}
 use Rattle.default_laws.proofs.NumbersLaw.{Listed, filled, written, ListStands}
 use Rattle.default_laws.proofs.NumbersLaw as lists
-use Rattle.attribute_laws.specs.Forms.{Marked, Form, Formed, number, list, dense, choice}
-use Rattle.attribute_laws.specs.Forms as forms
+use Rattle.attribute_laws.specs.ValueForms.{Marked, ValueForm, FormedAttribute, number, list, dense, choice}
+use Rattle.attribute_laws.specs.ValueForms as forms
 use Rattle.attribute_laws.specs.AttributesRead.{wholes}
 use Rattle.attribute_laws.proofs.ReadLaw.{ChoiceForm, none, direction, compared, choice-form}
 use Rattle.attribute_laws.proofs.FormLaw.{form-number, form-list, form-dense, form-choice}
@@ -111,7 +108,7 @@ module _ (text : List ℕ) where
     unfolding numbersBy
     dense-none = refl
 
-    numbers-form : {v : AttributeText} → Form text (tokenAt text name .end) v → wholes (numbersBy text name (formAt text name)) ≡ numbersIn v
+    numbers-form : {v : AttributeText} → ValueForm text (tokenAt text name .end) v → wholes (numbersBy text name (formAt text name)) ≡ numbersIn v
     unfolding tokenAfter
     numbers-form (number k) = let e = form-number text name k in ap (λ (f : ℕ). wholes (numbersBy text name f)) e ∙ one-number e
     numbers-form (list k m) = let e = form-list text name k in ap (λ (f : ℕ). wholes (numbersBy text name f)) e ∙ listed-numbers e m
@@ -119,5 +116,5 @@ module _ (text : List ℕ) where
     numbers-form (choice k) = ap (λ (f : ℕ). wholes (numbersBy text name f)) (form-choice text name k) ∙ no-numbers (choice-form (choiceAt text name .kind))
 
     -- the numbers that are read of an attribute are those that are written; none of a choice or a dense value
-    pub numbers-whole : {a : AttributeText} → Formed text name a → wholes (numbersBy text name (formAt text name)) ≡ numbersWritten text a
+    pub numbers-whole : {a : AttributeText} → FormedAttribute text name a → wholes (numbersBy text name (formAt text name)) ≡ numbersWritten text a
     numbers-whole p = numbers-form (p .form) ∙ sym (ap (numbersWritten text) (p .whole))

@@ -1,6 +1,6 @@
 -- What the code reads of an op's attributes, against the lists of the same op's tokens.
 -- Assumes nothing.
-use Prim.Native.Nat.{ℕ, _<_}
+use Prim.Native.Nat.{ℕ}
 use mathlib.Core.Path.{_≡_}
 use mathlib.Core.Bool.{true}
 use mathlib.Core.List.{List}
@@ -13,7 +13,7 @@ use Rattle.dimrules.specs.Dims.{num}
 use Rattle.dimrules.specs.declared.Numbers.{Numbers}
 use Rattle.program.specs.declared.Parts.{Parts}
 use Rattle.places.specs.Places.{attributeName, placeOf}
-use Rattle.optable.specs.Table.{Dense, attributeKind, value, compareType, comparisonDirection}
+use Rattle.optable.specs.Table.{value, compareType, comparisonDirection}
 use Rattle.attribute.specs.Attribute.{formAt, choiceAt, denseAt}
 use Rattle.attributes.specs.Attributes.{attributeOf, stands, numbersOf, choiceOf, denseType}
 use Rattle.nodes.specs.Nodes.{elementsOf}
@@ -33,12 +33,13 @@ pub record AttributeRead (text : List ℕ) (op : Parts) (j : ℕ) (a : Attribute
 abbrev pub wholes : Numbers → List ℤ
 wholes a = tab (a .count) (λ d. numberOf (num a d))
 
--- the values of an op's attributes by their names: numbers (of an attribute that is absent, none), the two choices of a compare, the dense value of a constant
+-- the values of an op's attributes by their names: numbers (of an attribute that is absent, none), the two choices of a compare, the type of a
+-- dense value, and its elements where there is one
 pub record AttributesNamed (text : List ℕ) (op : Parts) (attrs : List AttributeText) : Type 0 where
   pub numbers : (k : ℕ) → wholes (numbersOf text op k) ≡ numbersNamed text k attrs
   pub direction : choiceOf text op comparisonDirection ≡ choiceNamedBy text comparisonDirection attrs
   pub compared : choiceOf text op compareType ≡ choiceNamedBy text compareType attrs
-  pub type : stands text op value ≡ true → denseType text op value ≡ typeWritten text (attributeWith text value attrs)
+  pub type : denseType text op value ≡ typeWritten text (attributeWith text value attrs)
   pub elements : stands text op value ≡ true → elementsOf text op ≡ denseWritten text (attributeWith text value attrs) .elements
   pub dense : stands text op value ≡ true → ltb 0 (length (attributeWith text value attrs .types)) ≡ true
   pub absent : stands text op value ≡ false → attributeWith text value attrs ≡ noAttributeText

@@ -1,2 +1,2 @@
-pub mod Forms
+pub mod ValueForms
 pub mod AttributesRead

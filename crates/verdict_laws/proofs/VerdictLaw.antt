@@ -92,16 +92,6 @@ module _ (text : List ℕ) (read : textRefusal text .number ≡ 0) (k : ℕ) (h 
     abbrev row : Row
     row = rowFor (row-is .0) r
 
-    -- a constant has its value
-    value-stands : r .rule ≡ rule.Constant → stands text (op text read k) value ≡ true
-    unfolding attributesFit neededAt
-    value-stands e =
-        let f : attributesFit text (op text read k) row ≡ true = rw (row-is .1) at (parts .attributes) in
-        let needed = both-true _ (everywhere (row .needed) (λ s. stands text (op text read k) (neededAt row s))) f .1 in
-        let n : r .required ≡ value ∷ [] = rw e at (required-is i inside) in
-        let z = holds-at (row .needed) (λ s. stands text (op text read k) (neededAt row s)) needed 0 (rw n (omega arith)) in
-        rw n at z
-
     -- an op whose row has a body has one
     pub bodies-one : r .body ≡ true → length (o-k .bodies) ≡ 1
     unfolding bodiesFit
@@ -123,7 +113,7 @@ module _ (text : List ℕ) (read : textRefusal text .number ≡ 0) (k : ℕ) (h 
         record {
           numbers = named .numbers;
           choice = named .compared;
-          dense = λ e. named .type (value-stands e);
+          dense = λ e. named .type;
           argument = λ e j l. let b = body-there e in rw (b .0) (one-body (b .1) .types j (omega arith));
         }
 

@@ -13,11 +13,11 @@ use Rattle.attribute.specs.Attribute.{tokenAfter, closeFrom}
 use Rattle.source.specs.Source.{AttributeText}
 
 -- an attribute without its name, by its form
-abbrev pub numberText : ℕ → AttributeText
-numberText number = record { names = []; single = number ∷ []; listed = []; kinds = []; choices = []; literals = []; types = [] }
+abbrev pub singleText : ℕ → AttributeText
+singleText number = record { names = []; single = number ∷ []; listed = []; kinds = []; choices = []; literals = []; types = [] }
 
-abbrev pub listText : List ℕ → AttributeText
-listText numbers = record { names = []; single = []; listed = numbers; kinds = []; choices = []; literals = []; types = [] }
+abbrev pub listedText : List ℕ → AttributeText
+listedText numbers = record { names = []; single = []; listed = numbers; kinds = []; choices = []; literals = []; types = [] }
 
 abbrev pub denseText : List ℕ → ℕ → AttributeText
 denseText literals type = record { names = []; single = []; listed = []; kinds = []; choices = []; literals = literals; types = type ∷ [] }
@@ -32,20 +32,20 @@ pub data Marked (text : List ℕ) : ℕ → List ℕ → Type 0 where
       Marked text at (tokenAt text (tokenAt text at .end) .start ∷ starts)
 
 -- where the type of a dense value starts
-abbrev pub typeAfter : List ℕ → ℕ → ℕ
-typeAfter text literal = tokenAfter 1 text (closeFrom (length text) text literal) .start
+abbrev pub denseTypeAt : List ℕ → ℕ → ℕ
+denseTypeAt text literal = tokenAfter 1 text (closeFrom (length text) text literal) .start
 
 -- `= value` from a byte on
-pub data Form (text : List ℕ) (at : ℕ) : AttributeText → Type 0 where
-  number : kindOf text (tokenAfter 1 text at) ≡ NUMBER → Form text at (numberText (tokenAfter 1 text at .start))
-  list : {starts : List ℕ} → kindOf text (tokenAfter 1 text at) ≡ ARRAY → Marked text (tokenAfter 3 text at .end) starts → Form text at (listText starts)
+pub data ValueForm (text : List ℕ) (at : ℕ) : AttributeText → Type 0 where
+  number : kindOf text (tokenAfter 1 text at) ≡ NUMBER → ValueForm text at (singleText (tokenAfter 1 text at .start))
+  list : {starts : List ℕ} → kindOf text (tokenAfter 1 text at) ≡ ARRAY → Marked text (tokenAfter 3 text at .end) starts → ValueForm text at (listedText starts)
   dense : {literals : List ℕ} → kindOf text (tokenAfter 1 text at) ≡ DENSE →
-      Form text at (denseText (tokenAfter 3 text at .start ∷ literals) (typeAfter text (tokenAfter 3 text at .start)))
-  choice : kindOf text (tokenAfter 1 text at) ≡ DIALECT → Form text at (choiceText (tokenAfter 3 text at .start) (tokenAfter 4 text at .start))
+      ValueForm text at (denseText (tokenAfter 3 text at .start ∷ literals) (denseTypeAt text (tokenAfter 3 text at .start)))
+  choice : kindOf text (tokenAfter 1 text at) ≡ DIALECT → ValueForm text at (choiceText (tokenAfter 3 text at .start) (tokenAfter 4 text at .start))
 
 -- `name = value`, the name at a byte
-pub record Formed (text : List ℕ) (name : ℕ) (a : AttributeText) : Type 0 where
+pub record FormedAttribute (text : List ℕ) (name : ℕ) (a : AttributeText) : Type 0 where
   pub value : AttributeText
-  pub form : Form text (tokenAt text name .end) value
+  pub form : ValueForm text (tokenAt text name .end) value
   pub whole : a ≡
       record { names = name ∷ []; single = value .single; listed = value .listed; kinds = value .kinds; choices = value .choices; literals = value .literals; types = value .types }
