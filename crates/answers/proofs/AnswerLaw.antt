@@ -53,7 +53,7 @@ use Rattle.verdict_laws.proofs.VerdictLaw.{verdict-same}
 use Rattle.answers.specs.WrittenNodes.{nodeWritten, nodesWritten, definedAfter, returnedNames, valuesWritten, programWritten}
 use Rattle.answers.specs.Answered.{slotsOf, slotsOfAll, tensorsFrom, slotTypes, inputsWritten, unfitSlot, evaluationWritten, answerAccepted, answerOf}
 use Rattle.answers.specs.FreeRuns.{AnswerStands, FreeOfOrder}
-use Rattle.answers.proofs.SlotsLaw.{slotsBefore, before-same, slots-same, tensors-same, slot-type}
+use Rattle.answers.proofs.SlotsLaw.{slotsBefore, size-same, before-same, slots-same, tensors-same, slot-type}
 use Rattle.answers.proofs.OpNodeLaw.{operands-at, node-same}
 
 -- ---- a search over numbers
@@ -158,3 +158,130 @@ module _ (text : List ℕ) (accepted : verdict text .number ≡ 0) where
     where
       three : {a b : ℕ} {x y : List Node} {r s : List ℕ} → a ≡ b → x ≡ y → r ≡ s → _≡_ {A = Program Node} (record { inputs = a; ops = x; returns = r }) (record { inputs = b; ops = y; returns = s })
       three e1 e2 e3 = rw (e1, e2, e3) refl
+
+  -- ---- slots
+
+  needed-same : slotsOfAll (valuesWritten text) ≡ neededOf (vs text read)
+  unfolding neededOf
+  needed-same = slots-same (vs text read) (vs text read .count) (valuesWritten text) all-known
+
+  given-same : slotsOfAll (inputsWritten text) ≡ inputSlots (vs text read)
+  unfolding inputSlots
+  given-same = slots-same (vs text read) (vs text read .inputs) (inputsWritten text) inputs-known
+
+  -- the input that a slot belongs to
+  input-there : (s : ℕ) → s < inputSlots (vs text read) →
+      (inputOf (vs text read) s < vs text read .inputs) × (offsetAt (vs text read) (inputOf (vs text read) s) ≤ s) × (s < offsetAt (vs text read) (inputOf (vs text read) s + 1))
+  unfolding inputOf inputSlots
+  input-there s h = found (firstFailing n t) refl
+    where
+      n : ℕ
+      n = vs text read .inputs
+
+      t : ℕ → Bool
+      t i = leb (offsetAt (vs text read) (i + 1)) s
+
+      not-all : firstFailing n t ≡ n → ⊥
+      not-all e = by n refl
+        where
+          by : (m : ℕ) → n ≡ m → ⊥
+          by zero q = let z : s < offsetAt (vs text read) 0 = subst (λ (m : ℕ). s < offsetAt (vs text read) m) q h in not-suc-le-zero z
+          by (suc m) q =
+              let all = first-none n t (firstFailing n t) refl e in
+              let l = leb-true (offsetAt (vs text read) (m + 1)) s (holds-at n t all m (omega arith)) in
+              let z : n ≡ m + 1 = omega arith in
+              let w : s < offsetAt (vs text read) (m + 1) = subst (λ (k : ℕ). s < offsetAt (vs text read) k) z h in
+              omega arith
+
+      found : (d : ℕ) → d ≡ firstFailing n t → (d < n) × (offsetAt (vs text read) d ≤ s) × (s < offsetAt (vs text read) (d + 1))
+      found d e =
+          let f = first-facts n t d e (λ q. not-all (sym e ∙ q)) in
+          (f .0, start d (f .1), leb-false (offsetAt (vs text read) (d + 1)) s (f .2))
+        where
+          start : (d : ℕ) → ((i : ℕ) → i < d → t i ≡ true) → offsetAt (vs text read) d ≤ s
+          unfolding offsetAt
+          start zero g = omega arith
+          start (suc d) g = let z : d + 1 ≡ suc d = omega arith in subst (λ (k : ℕ). offsetAt (vs text read) k ≤ s) z (leb-true (offsetAt (vs text read) (d + 1)) s (g d (omega arith)))
+
+  slot-typed : (s : ℕ) → s < inputSlots (vs text read) → getD (slotTypes (inputsWritten text)) s I1 ≡ getD (vs text read .list) (inputOf (vs text read) s) noValue .ty .element
+  slot-typed s h =
+      let w = input-there s h in
+      let i = inputOf (vs text read) s in
+      let c = inputs-known .count in
+      let b = before-same (vs text read) (vs text read .inputs) (inputsWritten text) inputs-known i (let z = w .0 in omega arith) in
+      let next = offset-next (vs text read) i in
+      let size : slotsOf (getD (inputsWritten text) i noValue) ≡ sizeAt (vs text read) i = size-same (vs text read) (vs text read .inputs) (inputsWritten text) inputs-known i (w .0) in
+      let lo = w .1 in
+      let hi = w .2 in
+      let place : slotsBefore (inputsWritten text) i + (s - offsetAt (vs text read) i) ≡ s = omega arith in
+      ap (λ (m : ℕ). getD (slotTypes (inputsWritten text)) m I1) (sym place)
+      ∙ slot-type (inputsWritten text) i (s - offsetAt (vs text read) i) (let z = w .0 in omega arith) (omega arith)
+      ∙ ap (λ (v : Value). v .ty .element) (inputs-known .held i (w .0))
+
+  unfit-same : (inputs : List ℕ) → unfitSlot (inputsWritten text) inputs ≡ firstForeign (vs text read) inputs
+  unfolding unfitSlot firstForeign firstFailing slotFits
+  unfit-same inputs =
+      ap (λ (n : ℕ). firstWhere (λ s. not (isValue (getD (slotTypes (inputsWritten text)) s I1) (getD inputs s 0))) (tab n (λ s. s))) given-same
+      ∙ first-alike (λ s. not (isValue (getD (slotTypes (inputsWritten text)) s I1) (getD inputs s 0))) (λ s. not (slotFits (vs text read) inputs s)) (inputSlots (vs text read)) (λ s. s)
+      (λ s h. ap (λ (e : ElementType). not (isValue e (getD inputs s 0))) (slot-typed s h))
+
+  -- ---- the answer of an accepted text
+
+  tensors-given : (inputs : List ℕ) → tensorsFrom (inputsWritten text) inputs ≡ tensorsOf text inputs
+  unfolding tensorsOf valuesOf
+  tensors-given inputs = tensors-same (vs text read) (vs text read .inputs) (inputsWritten text) inputs-known inputs
+
+  tensors-stand : (store : List ℕ) → tensorsFrom (valuesWritten text) store ≡ tensorsIn (valuesOf text) store (valuesOf text .count)
+  unfolding valuesOf
+  tensors-stand store = tensors-same (vs text read) (vs text read .count) (valuesWritten text) all-known store
+
+  evaluation-same : (inputs : List ℕ) → evaluationOf text inputs ≡ evaluationWritten text inputs
+  unfolding evaluationOf evaluationWritten
+  evaluation-same inputs = ap (λ (q : Program Node). evaluation hlo q (tensorsOf text inputs) 0) program-same ∙ ap (λ (x : List Tensor). evaluation hlo (programWritten text) x 0) (sym (tensors-given inputs))
+
+  accepted-same : (inputs old : List ℕ) → fitted text inputs old ≡ answerAccepted text inputs old
+  unfolding fitted answerAccepted ran valuesOf
+  accepted-same inputs old =
+      four needed-same given-same (unfit-same inputs) (evaluation-same inputs)
+    where
+      abbrevAnswer : ℕ → ℕ → ℕ → Answer Tensor ℕ → Evaluated
+      abbrevAnswer needed given unfit e =
+          pick (ltb (length old) needed) (answer (refuse 9 needed 0) old)
+          (pick (not (eqb (length inputs) given)) (answer (refuse 10 given 0) old)
+          (pick (ltb unfit given) (answer (refuse 11 unfit 0) old)
+          (answer (refusalOf e) (storeAfter needed e old))))
+
+      four : {a b c d x y : ℕ} {e f : Answer Tensor ℕ} → b ≡ a → d ≡ c → y ≡ x → e ≡ f → abbrevAnswer a c x e ≡ abbrevAnswer b d y f
+      four p q r s = rw (p, q, r, s) refl
+
+  -- ---- demand 3 of it
+
+  claim-same : (inputs : List ℕ) (number : ℕ) (store : List ℕ) → OrderFreeAnswer text inputs number store → FreeOfOrder text inputs number store
+  unfolding OrderFreeAnswer FreeOfOrder
+  claim-same inputs number store claim v starts order ordered trees allowed =
+      let c = claim accepted (subst StartsAtIdentity (sym program-same) starts) order (subst (λ (q : Program Node). OrderOf hlo q order) (sym program-same) ordered) trees (subst (λ (q : Program Node). TreesAllowed hlo q trees) (sym program-same) allowed) in
+      let run : freeRun hlo (nodesOf text) (tensorsOf text inputs) order trees 0 ≡ freeRun hlo (programWritten text) (tensorsFrom (inputsWritten text) inputs) order trees 0 =
+          ap (λ (q : Program Node). freeRun hlo q (tensorsOf text inputs) order trees 0) program-same ∙ ap (λ (x : List Tensor). freeRun hlo (programWritten text) x order trees 0) (sym (tensors-given inputs)) in
+      subst (λ (e : End Tensor ℕ). AnswerStands text number store e) run
+      (record {
+        values = λ z. c .values z ∙ ap (λ (l : List Tensor). ended (map some l)) (sym (tensors-stand store));
+        returned = λ z. ap (λ (q : Program Node). resultsOf (q .returns) (freeRun hlo (nodesOf text) (tensorsOf text inputs) order trees 0)) (sym program-same) ∙ c .returned z ∙ ap some (returned-same store);
+        zero-divisor = c .zero-divisor;
+      })
+    where
+      returned-same : (store : List ℕ) → map (valueIn (valuesOf text) store) (nodesOf text .returns) ≡ map (λ i. getD (tensorsFrom (valuesWritten text) store) i []) (programWritten text .returns)
+      returned-same store = ap (λ (q : Program Node). map (valueIn (valuesOf text) store) (q .returns)) program-same ∙ returned-at (programWritten text .returns) returned-within
+
+-- the bench, for every text, input slice and store
+pub answer-same : (text inputs old : List ℕ) → evaluated text inputs old ≡ answerOf text inputs old
+unfolding evaluated answerOf
+answer-same text inputs old = go (eqb (verdict text .number) 0) refl
+  where
+    go : (b : Bool) → eqb (verdict text .number) 0 ≡ b → evaluated text inputs old ≡ answerOf text inputs old
+    go true e = rw (sym (verdict-same text), e) (accepted-same text (eqb-true (verdict text .number) 0 e) inputs old)
+    go false e = rw (sym (verdict-same text), e) refl
+
+-- demand 3 of its answer
+pub free-of-order : (text inputs : List ℕ) (number : ℕ) (store : List ℕ) → OrderFreeAnswer text inputs number store → FreeOfOrder text inputs number store
+unfolding FreeOfOrder
+free-of-order text inputs number store claim v = claim-same text (ap (λ (r : Refusal). r .number) (verdict-same text) ∙ v) inputs number store claim v

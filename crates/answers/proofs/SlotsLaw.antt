@@ -56,7 +56,7 @@ tensors-by (v ∷ known) slots =
 -- ---- against the code's offsets
 
 module _ (vs : Values) (n : ℕ) (known : List Value) (k : KnownBefore (vs .list) n known) where
-  size-same : (i : ℕ) → i < n → slotsOf (getD known i noValue) ≡ sizeAt vs i
+  pub size-same : (i : ℕ) → i < n → slotsOf (getD known i noValue) ≡ sizeAt vs i
   unfolding sizeAt
   size-same i h = ap slotsOf (k .held i h)
 
