@@ -10,8 +10,9 @@ use native.Mathlib.Omega.{arith}
 use lib.Dec.{eqb, ltb, leb}
 use lib.ListN.{length, getD, take}
 use borrow.Author.Tests.{eqb-true, leb-true, leb-false}
-use Rattle.lists.specs.Lists.{pick, tab, concat, firstWhere}
-use Rattle.lists.proofs.TabLaw.{tab-cong, getD-tab}
+use Rattle.lists.specs.Lists.{pick, tab, firstWhere, All}
+use Rattle.lists.proofs.AllLaw.{all-map}
+use Rattle.lists.proofs.TabLaw.{tab-cong, getD-tab, length-tab}
 use Rattle.element.specs.declared.ElementType.{ElementType}
 use Rattle.element.specs.declared.ElementType.the-variants.{I1}
 use Rattle.element.specs.Types.{isValue}
@@ -36,7 +37,7 @@ use Rattle.inputs.specs.Inputs.{inputSlots, inputOf, slotFits, firstForeign}
 use Rattle.verify.specs.Verify.{programRefusal, verdict}
 use Rattle.nodes.specs.Nodes.{nodeAt, nodesIn, nodesOf}
 use Rattle.nodes.proofs.VerdictLaw.{both-zero}
-use Rattle.nodes.proofs.AcceptedLaw.{accepted-count, accepted-stands, op-accepted}
+use Rattle.nodes.proofs.AcceptedLaw.{accepted-count, accepted-stands, op-accepted, accepted-program}
 use Rattle.evaluation.specs.Evaluated.{Evaluated, answer, tensorsOf, evaluationOf, refusalOf, storeAfter, ran, fitted, evaluated}
 use Rattle.evaluation.specs.Order.{Claimed, OrderFreeAnswer}
 use Rattle.source.specs.Source.{OpText, opFrom, functionOf}
@@ -269,8 +270,26 @@ module _ (text : List ℕ) (accepted : verdict text .number ≡ 0) where
         zero-divisor = c .zero-divisor;
       })
     where
+      returned-within : All (λ i. i < valuesOf text .count) (programWritten text .returns)
+      unfolding valuesOf nodesOf nodesIn
+      returned-within =
+          let a = accepted-program text accepted .returned in
+          let v = values .inputs in
+          let w = values .count in
+          let c = count in
+          let n = ops-count text read in
+          let l = length-tab (opsOf (programOf text)) (nodeAt text (programOf text) (vs text read)) in
+          let z : vs text read .inputs + length (tab (opsOf (programOf text)) (nodeAt text (programOf text) (vs text read))) ≡ vs text read .count = omega arith in
+          subst (λ (q : Program Node). All (λ i. i < vs text read .count) (q .returns)) program-same (all-map (λ i b. rw z at b) (nodesOf text .returns) a)
+
+      returned-at : (store : List ℕ) (is : List ℕ) → All (λ i. i < valuesOf text .count) is → map (valueIn (valuesOf text) store) is ≡ map (λ i. getD (tensorsFrom (valuesWritten text) store) i []) is
+      returned-at store [] a = refl
+      returned-at store (i ∷ is) a =
+          let z : getD (tensorsFrom (valuesWritten text) store) i [] ≡ valueIn (valuesOf text) store i = ap (λ (l : List Tensor). getD l i []) (tensors-stand store) ∙ getD-tab (valuesOf text .count) (valueIn (valuesOf text) store) i [] (a .0) in
+          rw (z, returned-at store is (a .1)) refl
+
       returned-same : (store : List ℕ) → map (valueIn (valuesOf text) store) (nodesOf text .returns) ≡ map (λ i. getD (tensorsFrom (valuesWritten text) store) i []) (programWritten text .returns)
-      returned-same store = ap (λ (q : Program Node). map (valueIn (valuesOf text) store) (q .returns)) program-same ∙ returned-at (programWritten text .returns) returned-within
+      returned-same store = ap (λ (q : Program Node). map (valueIn (valuesOf text) store) (q .returns)) program-same ∙ returned-at store (programWritten text .returns) returned-within
 
 -- the bench, for every text, input slice and store
 pub answer-same : (text inputs old : List ℕ) → evaluated text inputs old ≡ answerOf text inputs old

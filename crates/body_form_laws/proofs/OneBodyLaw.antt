@@ -3,6 +3,7 @@
 use mathlib.Core.Path.{_≡_, refl, sym, ap, subst, _∙_}
 use mathlib.Core.List.{List, [], _∷_, _++_, map, append-nil, append-assoc}
 use mathlib.Core.Bool.{Bool, true, false, _&&_}
+<<<<<<< HEAD
 use Prim.Native.Nat.{ℕ, zero, suc, _+_, _<_}
 use native.Mathlib.Omega.{arith}
 use lib.Dec.{eqb}
@@ -11,11 +12,23 @@ use borrow.Author.Tests.{eqb-true, ne-eqb, eqb-false, le-ltb}
 use Rattle.lists.specs.Lists.{pick, All, concat}
 use Rattle.lists.proofs.AllLaw.{all-get}
 use Rattle.grammar.specs.Symbols.{BodyOpen, OpName, Body, Op}
+=======
+use Prim.Native.Nat.{ℕ, _+_, _<_}
+use native.Mathlib.Omega.{arith}
+use lib.Dec.{eqb}
+use lib.ListN.{length, getD}
+use borrow.Author.Tests.{eqb-true, eqb-false, le-ltb}
+use Rattle.lists.specs.Lists.{pick, All, concat}
+use Rattle.grammar.specs.Symbols.{BodyOpen, Body, Op}
+>>>>>>> 99baa3ee091801c55282f588fc732bb3220a1104
 use Rattle.syntax.specs.Readings.{Reading, readingsOf, readings}
 use Rattle.syntax.specs.Roles.{rolesOf, tokensOf}
 use Rattle.syntax.specs.Tokens.{kindsOf}
 use Rattle.grammar.specs.Leaves.{Parsed}
+<<<<<<< HEAD
 use Rattle.syntax.specs.OpsAlone.{OpAlone, Outline}
+=======
+>>>>>>> 99baa3ee091801c55282f588fc732bb3220a1104
 use Rattle.syntax.specs.BodiesAlone.{BodyOutline}
 use Rattle.syntax.proofs.BodyLaw.{bodies}
 use Rattle.syntax.proofs.Theorems.{no-fault}
@@ -24,16 +37,30 @@ use Rattle.judge.proofs.Theorems.{accepted-sentence}
 use Rattle.program.specs.Parts.{depthAfter, noParts, partsFrom, partsOf, partsAt, opAt}
 use Rattle.program.specs.Program.{programOf}
 use Rattle.places.specs.Places.{bodyOpen, placeOf}
+<<<<<<< HEAD
 use Rattle.source.specs.Source.{withRole, Cut, cutFrom, enclosed, opFrom}
 use Rattle.reading_laws.proofs.DepthLaw.{depthThrough, yields-depth, depth-append}
 use Rattle.reading_laws.proofs.OpsLaw.{few-bytes, outlined, op-count, op-place}
 use Rattle.source_laws.specs.Listed.{firstPlace}
 use Rattle.source_laws.proofs.ListedLaw.{part-listed}
 use Rattle.source_laws.proofs.CutLaw.{ahead, opened, cut-whole, cut-begins, cut-places, BeginsWith}
+=======
+use Rattle.scope.specs.Scope.{begins}
+use Rattle.source.specs.Source.{Cut, cutFrom, enclosed, opFrom}
+use Rattle.reading_laws.proofs.DepthLaw.{depthThrough, yields-depth, depth-append}
+use Rattle.reading_laws.proofs.OpsLaw.{few-bytes, read-program}
+use Rattle.source_laws.specs.Listed.{firstPlace}
+use Rattle.source_laws.specs.Pieces.{opPlace}
+use Rattle.source_laws.proofs.ListedLaw.{part-listed}
+use Rattle.source_laws.proofs.CutLaw.{ahead, opened, cut-whole, cut-begins, cut-places, BeginsWith}
+use Rattle.source_laws.proofs.PiecesLaw.{pieces-are-ops}
+use Rattle.source_laws.proofs.OpItemsLaw.{piece-stands}
+>>>>>>> 99baa3ee091801c55282f588fc732bb3220a1104
 use Rattle.body_form_laws.specs.SameBody.{OpStands}
 use Rattle.body_form_laws.proofs.LevelLaw.{roles-append}
 use Rattle.body_form_laws.proofs.PiecesLaw.{shaped, enclosed-body}
 
+<<<<<<< HEAD
 -- ---- the ops of a text
 
 record Amid (f : ℕ → List Reading) (at : ℕ) (xs : List Reading) : Type 0 where
@@ -64,6 +91,20 @@ op-stands text e k h =
     ∙ ap (λ (y : List Reading). m .pre ++ y) (append-assoc (readingsOf Op text at) (m .post) more)) ∙ sym (append-assoc (o .header) (m .pre) _))) in
     subst (OpStands text) (sym (op-place text e o k l))
     (record { alone = all-get (OpAlone text OpName) (o .ops) 0 (o .each) k l; pre = o .header ++ m .pre; post = m .post ++ more; whole = w })
+=======
+-- each op of a text but the return stands in it
+pub op-stands : (text : List ℕ) → textRefusal text .number ≡ 0 → (k : ℕ) → k + 1 < programOf text .count → OpStands text (opPlace text k)
+op-stands text e k h =
+    let a = pieces-are-ops text e in
+    let c = a .count in
+    let s = piece-stands begins 0 0 0 (readings text) k (omega arith) in
+    record {
+      alone = read-program text e .each k h;
+      pre = s .pre;
+      post = s .post;
+      whole = s .whole ∙ ap (λ (l : List Reading). s .pre ++ (l ++ s .post)) (a .each k h);
+    }
+>>>>>>> 99baa3ee091801c55282f588fc732bb3220a1104
 
 -- ---- depths
 

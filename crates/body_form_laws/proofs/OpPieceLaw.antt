@@ -1,5 +1,6 @@
 -- One op of a body as a piece: it has one quoted name; its parts are those of the op as it is read alone from its first byte, which is that of its first result.
 -- Assumes nothing.
+<<<<<<< HEAD
 use mathlib.Core.Path.{_≡_, refl, sym, ap, subst, _∙_}
 use mathlib.Core.List.{List, [], _∷_, _++_, append-nil}
 use mathlib.Core.Bool.{Bool, true, false, _&&_, _||_}
@@ -9,6 +10,16 @@ use lib.Dec.{eqb}
 use lib.ListN.{length, getD, length-append}
 use Rattle.lists.specs.Lists.{pick}
 use Rattle.scan.specs.Bytes.{among as oneOf}
+=======
+use mathlib.Core.Path.{_≡_, refl, ap, _∙_}
+use mathlib.Core.List.{List, [], _∷_, _++_}
+use mathlib.Core.Bool.{Bool, true, false, _||_}
+use Prim.Native.Nat.{ℕ, zero, suc, _+_, _<_}
+use native.Mathlib.Omega.{arith}
+use lib.Dec.{eqb}
+use lib.ListN.{length, getD}
+use Rattle.lists.specs.Lists.{pick}
+>>>>>>> 99baa3ee091801c55282f588fc732bb3220a1104
 use Rattle.text.specs.Lex.{tokenAt}
 use Rattle.text.specs.declared.Token.{Token}
 use Rattle.grammar.specs.Symbols.{ResultName, OpName, FuncReturn, OpRest, BodyOpName, BodyReturn, BodyClose, Op}
@@ -18,6 +29,7 @@ use Rattle.grammar.proofs.Leaves.{leading}
 use Rattle.syntax.specs.Kinds.{kindOf}
 use Rattle.syntax.specs.Readings.{Reading, reading, labelled, readingsFrom, readingsOf}
 use Rattle.syntax.specs.Roles.{rolesOf}
+<<<<<<< HEAD
 use Rattle.syntax.specs.OpsAlone.{Naming, unnamed, results, OpParts}
 use Rattle.syntax.specs.BodiesAlone.{BodyOpAlone}
 use Rattle.program.specs.declared.Parts.{Parts}
@@ -26,6 +38,17 @@ use Rattle.source.specs.Source.{withRole}
 use Rattle.body_form_laws.proofs.LevelLaw.{role-append, role-none}
 use Rattle.body_form_laws.proofs.CutLaw.{restSet, nameSet, bodySet, quotedBy}
 use Rattle.body_form_laws.proofs.PiecesLaw.{names-outside, rest-outside, return-inside, close-none, BodyPieces, last, next, gathered}
+=======
+use Rattle.syntax.specs.OpsAlone.{Naming, results, OpParts}
+use Rattle.syntax.specs.BodiesAlone.{BodyOpAlone}
+use Rattle.program.specs.declared.Parts.{Parts}
+use Rattle.program.specs.Parts.{partOf, noted, depthAfter, partsFrom}
+use Rattle.source.specs.Source.{withRole}
+use Rattle.source_laws.proofs.OpCutLaw.{restSet}
+use Rattle.source_laws.proofs.HeaderLaw.{role-none, role-past}
+use Rattle.body_form_laws.proofs.CutLaw.{resultSet, quotedBy, results-outside, rest-outside}
+use Rattle.body_form_laws.proofs.PiecesLaw.{body-op, BodyPieces, last, next, gathered, close-after}
+>>>>>>> 99baa3ee091801c55282f588fc732bb3220a1104
 
 abbrev quoted : List ℕ
 quoted = OpName ∷ FuncReturn ∷ BodyOpName ∷ BodyReturn ∷ []
@@ -34,6 +57,7 @@ quoted = OpName ∷ FuncReturn ∷ BodyOpName ∷ BodyReturn ∷ []
 
 named-first : (b : Bool) (name : Token) (rest : List Reading) → Yields (OpRest ∷ []) (rolesOf rest) → withRole quoted 0 0 (reading true (quotedBy b) name ∷ rest) ≡ name .start ∷ []
 unfolding depthAfter
+<<<<<<< HEAD
 named-first true name rest y = ap (λ (l : List ℕ). name .start ∷ l) (role-none restSet quoted tt 0 rest (rest-outside rest y))
 named-first false name rest y = ap (λ (l : List ℕ). name .start ∷ l) (role-none restSet quoted tt 0 rest (rest-outside rest y))
 
@@ -58,6 +82,21 @@ module _ (close : Reading) (shut : close .role ≡ BodyClose) where
   names-count (next names name rest {ps} a v) =
       let i = names-count v in
       ap (λ (l : List ℕ). length (l ++ gathered quoted ps)) (one-name false names name rest (a .naming) (a .leaves)) ∙ ap suc i
+=======
+named-first true name rest y = ap (λ (l : List ℕ). name .start ∷ l) (role-none quoted restSet 0 rest tt (rest-outside rest y))
+named-first false name rest y = ap (λ (l : List ℕ). name .start ∷ l) (role-none quoted restSet 0 rest tt (rest-outside rest y))
+
+pub one-name : (b : Bool) (xs : List Reading) (o : OpParts (quotedBy b) xs) → withRole quoted 0 0 xs ≡ o .name .start ∷ []
+one-name b xs o =
+    ap (withRole quoted 0 0) (o .whole)
+    ∙ (role-past quoted resultSet (o .names) (reading true (quotedBy b) (o .name) ∷ o .rest) tt (results-outside (o .names) (o .naming)) ∙ named-first b (o .name) (o .rest) (o .leaves))
+
+-- as many as pieces
+pub names-count : (close : Reading) → close .role ≡ BodyClose → {text : List ℕ} {ps : List (List Reading)} → BodyPieces text close ps → length (gathered quoted ps) ≡ length ps
+names-count close shut (last {xs} o) = ap (λ (l : List ℕ). length (l ++ [])) (close-after [] close shut quoted refl xs ∙ one-name true xs o)
+names-count close shut (next names name rest {ps} a v) =
+    ap (λ (l : List ℕ). length (l ++ gathered quoted ps)) (one-name false (names ++ (reading true BodyOpName name ∷ rest)) (body-op names name rest a)) ∙ ap suc (names-count close shut v)
+>>>>>>> 99baa3ee091801c55282f588fc732bb3220a1104
 
 -- ---- as it is read alone
 
@@ -90,7 +129,11 @@ head-token text at y ys e = head-from (length text + 1) Op text at y ys e
 -- no result name after the quoted one
 no-results : (name : Token) (rest : List Reading) → Yields (OpRest ∷ []) (rolesOf rest) → withRole (ResultName ∷ []) 0 0 (reading true BodyOpName name ∷ rest) ≡ []
 unfolding depthAfter
+<<<<<<< HEAD
 no-results name rest y = role-none restSet (ResultName ∷ []) tt 0 rest (rest-outside rest y)
+=======
+no-results name rest y = role-none (ResultName ∷ []) restSet 0 rest tt (rest-outside rest y)
+>>>>>>> 99baa3ee091801c55282f588fc732bb3220a1104
 
 result-first : (n : Reading) (zs : List Reading) → n .role ≡ ResultName → getD (withRole (ResultName ∷ []) 0 0 (n ∷ zs)) 0 0 ≡ n .token .start
 result-first n zs e = ap (λ (r : ℕ). getD (pick (eqb r ResultName || false) (n .token .start ∷ withRole (ResultName ∷ []) 0 (depthAfter 0 (n .role)) zs) (withRole (ResultName ∷ []) 0 (depthAfter 0 (n .role)) zs)) 0 0) e

@@ -2,13 +2,19 @@
 -- Assumes nothing.
 use mathlib.Core.Path.{_≡_, refl, sym, ap, subst, _∙_}
 use mathlib.Core.List.{List, [], _∷_, _++_, append-nil, append-assoc}
+<<<<<<< HEAD
 use mathlib.Core.Bool.{Bool, true, false, not, _&&_}
 use Prim.Native.Nat.{ℕ, zero, suc}
+=======
+use mathlib.Core.Bool.{Bool, true, false, _&&_}
+use Prim.Native.Nat.{ℕ}
+>>>>>>> 99baa3ee091801c55282f588fc732bb3220a1104
 use native.Mathlib.Omega.{arith}
 use lib.Dec.{T, eqb}
 use Rattle.lists.specs.Lists.{pick}
 use Rattle.text.specs.declared.Token.{Token}
 use Rattle.scan.specs.Bytes.{among as oneOf}
+<<<<<<< HEAD
 use Rattle.grammar.specs.Symbols.{ResultName, OpName, FuncReturn, OpRest, BodyOpen, BodyLabel, BodyOpName, BodyReturn, BodyClose, Body, MoreResults, Arguments, equals, lparen, rparen, colon, among}
 use Rattle.grammar.specs.Leaves.{Yields}
 use Rattle.grammar.proofs.Leaves.{leading}
@@ -16,10 +22,19 @@ use Rattle.grammar.proofs.Within.{allPass}
 use Rattle.syntax.specs.Readings.{Reading, reading, readingsOf}
 use Rattle.syntax.specs.Roles.{rolesOf}
 use Rattle.syntax.specs.OpsAlone.{Naming, unnamed, results, OpParts}
+=======
+use Rattle.grammar.specs.Symbols.{BodyOpen, BodyLabel, BodyOpName, BodyReturn, BodyClose, Body, Arguments, lparen, rparen, colon}
+use Rattle.grammar.specs.Leaves.{Yields}
+use Rattle.grammar.proofs.Leaves.{leading}
+use Rattle.syntax.specs.Readings.{Reading, reading, readingsOf}
+use Rattle.syntax.specs.Roles.{rolesOf}
+use Rattle.syntax.specs.OpsAlone.{OpParts}
+>>>>>>> 99baa3ee091801c55282f588fc732bb3220a1104
 use Rattle.syntax.specs.BodiesAlone.{BodyOpAlone, BodyOpsRead, return, op, BodyOutline}
 use Rattle.program.specs.Parts.{depthAfter}
 use Rattle.scope.specs.Scope.{begins}
 use Rattle.source.specs.Source.{withRole, Cut, cutFrom, enclosed}
+<<<<<<< HEAD
 use Rattle.part_laws.proofs.DepthLaw.{outside, yields-outside}
 use Rattle.body_form_laws.proofs.LevelLaw.{outside-both, enclosed-inside, role-inside, role-append, role-none}
 use Rattle.body_form_laws.proofs.CutLaw.{restSet, nameSet, headSet, bodySet, keeps-rest, keeps-names, keeps-head, keeps-body, lastOf, Apart, head-last, cut-past, quotedBy, following-apart, cut-op}
@@ -64,6 +79,27 @@ ops-inside (return {xs} o) = return-inside xs o
 ops-inside (op names name rest {more} a m) =
     subst (λ (l : List Reading). T (outside bodySet 0 (rolesOf l))) (append-assoc names (reading true BodyOpName name ∷ rest) more)
     (outside-both bodySet 0 (names ++ (reading true BodyOpName name ∷ rest)) more (op-inside false names name rest (a .naming) (a .leaves)) (ops-inside m))
+=======
+use Rattle.reading_laws.proofs.DepthLaw.{depthThrough}
+use Rattle.part_laws.proofs.DepthLaw.{outside}
+use Rattle.source_laws.proofs.CutLaw.{lastRole, opened}
+use Rattle.source_laws.proofs.OpCutLaw.{free}
+use Rattle.source_laws.proofs.HeaderLaw.{role-append, apartFrom, role-none}
+use Rattle.body_form_laws.proofs.LevelLaw.{outside-both, role-inside, enclosed-inside}
+use Rattle.body_form_laws.proofs.CutLaw.{argumentSet, bodySet, op-inside, cut-op, head-inside, head-outside, head-free, cut-head}
+
+-- ---- the ops of a body
+
+-- an op, as it stands in the body
+abbrev pub body-op : {text : List ℕ} (names : List Reading) (name : Token) (rest : List Reading) → BodyOpAlone text names name rest → OpParts BodyOpName (names ++ (reading true BodyOpName name ∷ rest))
+body-op names name rest a = record { names = names; name = name; rest = rest; whole = refl; naming = a .naming; leaves = a .leaves }
+
+ops-inside : {text : List ℕ} {ops : List Reading} → BodyOpsRead text ops → T (outside bodySet 0 (rolesOf ops))
+ops-inside (return {xs} o) = op-inside true xs o
+ops-inside (op names name rest {more} a m) =
+    subst (λ (l : List Reading). T (outside bodySet 0 (rolesOf l))) (append-assoc names (reading true BodyOpName name ∷ rest) more)
+    (outside-both bodySet 0 (names ++ (reading true BodyOpName name ∷ rest)) more (op-inside false (names ++ (reading true BodyOpName name ∷ rest)) (body-op names name rest a)) (ops-inside m))
+>>>>>>> 99baa3ee091801c55282f588fc732bb3220a1104
 
 -- ---- the pieces
 
@@ -81,7 +117,11 @@ gathered roles (p ∷ ps) = withRole roles 0 0 p ++ gathered roles ps
 pub record OpsCut (text : List ℕ) (close : Reading) (ops : List Reading) : Type 0 where
   pub pieces : List (List Reading)
   pub view : BodyPieces text close pieces
+<<<<<<< HEAD
   pub cut : (role : ℕ) → Apart role → cutFrom begins 1 role 1 (ops ++ (close ∷ [])) ≡ record { before = []; pieces = pieces }
+=======
+  pub cut : (role : ℕ) → T (free role) → cutFrom begins 1 role 1 (ops ++ (close ∷ [])) ≡ record { before = []; pieces = pieces }
+>>>>>>> 99baa3ee091801c55282f588fc732bb3220a1104
   pub gathers : (roles : List ℕ) → oneOf roles BodyClose ≡ false → withRole roles 1 1 (ops ++ (close ∷ [])) ≡ gathered roles pieces
 
 module _ (text : List ℕ) (close : Reading) (shut : close .role ≡ BodyClose) where
@@ -96,6 +136,7 @@ module _ (text : List ℕ) (close : Reading) (shut : close .role ≡ BodyClose) 
       go true q = rw q
       go false q = refl
 
+<<<<<<< HEAD
   cut-return : (xs : List Reading) → OpParts BodyReturn xs → (role : ℕ) → Apart role → cutFrom begins 1 role 1 (xs ++ (close ∷ [])) ≡ record { before = []; pieces = (xs ++ (close ∷ [])) ∷ [] }
   cut-return xs o role a =
       let x = reading true BodyReturn (o .name) in
@@ -105,22 +146,36 @@ module _ (text : List ℕ) (close : Reading) (shut : close .role ≡ BodyClose) 
       ∙ (cut-op true x refl (o .rest) zs (o .leaves) role a (o .names) (o .naming)
       ∙ (ap (λ (c : Cut). record { before = []; pieces = (o .names ++ (x ∷ (o .rest ++ c .before))) ∷ c .pieces }) (close-cut (lastOf BodyReturn (rolesOf (o .rest))))
       ∙ ap (λ (l : List Reading). record { before = []; pieces = l ∷ [] }) (sym e)))
+=======
+  -- it is no token of the return
+  pub close-after : (roles : List ℕ) → oneOf roles BodyClose ≡ false → (xs : List Reading) → withRole roles 0 0 (xs ++ (close ∷ [])) ≡ withRole roles 0 0 xs
+  close-after roles e xs =
+      role-append roles 0 0 xs (close ∷ []) ∙ (ap (λ (l : List ℕ). withRole roles 0 0 xs ++ l) (close-none roles 0 (depthThrough 0 (rolesOf xs)) e) ∙ append-nil (withRole roles 0 0 xs))
+>>>>>>> 99baa3ee091801c55282f588fc732bb3220a1104
 
   pub ops-cut : {ops : List Reading} → BodyOpsRead text ops → OpsCut text close ops
   ops-cut (return {xs} o) =
       record {
         pieces = (xs ++ (close ∷ [])) ∷ [];
         view = last o;
+<<<<<<< HEAD
         cut = cut-return xs o;
         gathers = λ roles e.
             role-inside bodySet tt roles 0 xs (close ∷ []) (return-inside xs o) ∙ (ap (λ (l : List ℕ). withRole roles 0 0 xs ++ l) (close-none roles 1 1 e ∙ sym (close-none roles 0 0 e))
             ∙ (sym (role-append bodySet roles 0 xs (close ∷ []) (return-inside xs o)) ∙ sym (append-nil (withRole roles 0 0 (xs ++ (close ∷ []))))));
+=======
+        cut = λ role t. cut-op true role t xs (close ∷ []) o .0 ∙ ap (opened xs) (close-cut (lastRole role (rolesOf xs)));
+        gathers = λ roles e.
+            role-inside bodySet tt roles xs (close ∷ []) (op-inside true xs o)
+            ∙ (ap (λ (l : List ℕ). withRole roles 0 0 xs ++ l) (close-none roles 1 1 e) ∙ (append-nil (withRole roles 0 0 xs) ∙ sym (append-nil (withRole roles 0 0 (xs ++ (close ∷ []))) ∙ close-after roles e xs)));
+>>>>>>> 99baa3ee091801c55282f588fc732bb3220a1104
       }
   ops-cut (op names name rest {more} a m) =
       let i = ops-cut m in
       let x = reading true BodyOpName name in
       let zs = more ++ (close ∷ []) in
       let one = names ++ (x ∷ rest) in
+<<<<<<< HEAD
       let e : (names ++ (x ∷ (rest ++ more))) ++ (close ∷ []) ≡ names ++ (x ∷ (rest ++ zs)) =
       append-assoc names (x ∷ (rest ++ more)) (close ∷ []) ∙ ap (λ (l : List Reading). names ++ (x ∷ l)) (append-assoc rest more (close ∷ [])) in
       let f : names ++ (x ∷ (rest ++ zs)) ≡ one ++ zs = sym (append-assoc names (x ∷ rest) zs) in
@@ -134,6 +189,20 @@ module _ (text : List ℕ) (close : Reading) (shut : close .role ≡ BodyClose) 
             ∙ ap (λ (l : List Reading). record { before = []; pieces = (names ++ (x ∷ l)) ∷ i .pieces }) (append-nil rest)));
         gathers = λ roles c.
             ap (withRole roles 1 1) (e ∙ f) ∙ (role-inside bodySet tt roles 0 one zs (op-inside false names name rest (a .naming) (a .leaves)) ∙ ap (λ (l : List ℕ). withRole roles 0 0 one ++ l) (i .gathers roles c));
+=======
+      let o = body-op names name rest a in
+      let e : (names ++ (x ∷ (rest ++ more))) ++ (close ∷ []) ≡ one ++ zs =
+      ap (λ (l : List Reading). l ++ (close ∷ [])) (sym (append-assoc names (x ∷ rest) more)) ∙ append-assoc one more (close ∷ []) in
+      record {
+        pieces = one ∷ i .pieces;
+        view = next names name rest a (i .view);
+        cut = λ role t.
+            let c = cut-op false role t one zs o in
+            ap (λ (l : List Reading). cutFrom begins 1 role 1 l) e
+            ∙ (c .0 ∙ (ap (opened one) (i .cut (lastRole role (rolesOf one)) (c .1)) ∙ ap (λ (l : List Reading). record { before = []; pieces = l ∷ i .pieces }) (append-nil one)));
+        gathers = λ roles c.
+            ap (withRole roles 1 1) e ∙ (role-inside bodySet tt roles one zs (op-inside false one o) ∙ ap (λ (l : List ℕ). withRole roles 0 0 one ++ l) (i .gathers roles c));
+>>>>>>> 99baa3ee091801c55282f588fc732bb3220a1104
       }
 
 -- ---- the whole body
@@ -174,6 +243,7 @@ module _ {text : List ℕ} {at : ℕ} (o : BodyOutline text at) where
   shaped = by-lists (o .header) (o .closing) (o .whole) (o .head) (o .close)
 
 module _ {text : List ℕ} {ys : List Reading} (s : BodyShape text ys) where
+<<<<<<< HEAD
   head-inside : T (outside bodySet 0 (rolesOf (s .head)))
   unfolding depthAfter
   head-inside = yields-outside bodySet keeps-body (s .leaves) 0 tt
@@ -182,6 +252,8 @@ module _ {text : List ℕ} {ys : List Reading} (s : BodyShape text ys) where
   unfolding depthAfter
   head-outside = yields-outside headSet keeps-head (s .leaves) 0 tt
 
+=======
+>>>>>>> 99baa3ee091801c55282f588fc732bb3220a1104
   step-in : depthAfter 0 (s .brace .role) ≡ 1
   unfolding depthAfter
   step-in = rw (s .opened)
@@ -192,7 +264,11 @@ module _ {text : List ℕ} {ys : List Reading} (s : BodyShape text ys) where
       let b = s .brace in
       let c = s .close in
       let inside = s .head ++ s .ops in
+<<<<<<< HEAD
       let t = outside-both bodySet 0 (s .head) (s .ops) head-inside (ops-inside (s .each)) in
+=======
+      let t = outside-both bodySet 0 (s .head) (s .ops) (head-inside (s .head) (s .leaves)) (ops-inside (s .each)) in
+>>>>>>> 99baa3ee091801c55282f588fc732bb3220a1104
       let e : ys ≡ b ∷ (inside ++ (c ∷ [])) = s .whole ∙ ap (λ (l : List Reading). b ∷ l) (sym (append-assoc (s .head) (s .ops) (c ∷ []))) in
       let f : ys ++ others ≡ b ∷ (inside ++ (c ∷ others)) = ap (λ (l : List Reading). l ++ others) e ∙ ap (λ (l : List Reading). b ∷ l) (append-assoc inside (c ∷ []) others) in
       ap (enclosed 0) f
@@ -209,6 +285,7 @@ module _ {text : List ℕ} {ys : List Reading} (s : BodyShape text ys) where
   pub body-cut : cutFrom begins 1 0 0 ys .pieces ≡ body-ops .pieces
   body-cut =
       let b = s .brace in
+<<<<<<< HEAD
       let a = head-last (b .role) (rolesOf (s .head)) (s .leaves) in
       ap (λ (l : List Reading). cutFrom begins 1 0 0 l .pieces) (s .whole)
       ∙ (ap (λ (n : ℕ). cutFrom begins 1 (b .role) n (s .head ++ tail) .pieces) step-in
@@ -223,3 +300,17 @@ module _ {text : List ℕ} {ys : List Reading} (s : BodyShape text ys) where
       ∙ (ap (λ (n : ℕ). withRole roles 1 n (s .head ++ tail)) step-in
       ∙ (role-inside bodySet tt roles 0 (s .head) tail head-inside
       ∙ (ap (λ (l : List ℕ). l ++ withRole roles 1 1 tail) (role-none headSet roles t 0 (s .head) head-outside) ∙ body-ops .gathers roles c)))
+=======
+      ap (λ (l : List Reading). cutFrom begins 1 0 0 l .pieces) (s .whole)
+      ∙ (ap (λ (n : ℕ). cutFrom begins 1 (b .role) n (s .head ++ tail) .pieces) step-in
+      ∙ (ap (λ (c : Cut). c .pieces) (cut-head (s .head) (s .leaves) (b .role) tail)
+      ∙ ap (λ (c : Cut). c .pieces) (body-ops .cut (lastRole (b .role) (rolesOf (s .head))) (head-free (s .head) (s .leaves) (b .role)))))
+
+  -- the tokens of roles that do not stand in its header
+  pub body-gathers : (roles : List ℕ) → oneOf roles BodyClose ≡ false → T (apartFrom roles argumentSet) → withRole roles 1 0 ys ≡ gathered roles (body-ops .pieces)
+  body-gathers roles c t =
+      ap (withRole roles 1 0) (s .whole)
+      ∙ (ap (λ (n : ℕ). withRole roles 1 n (s .head ++ tail)) step-in
+      ∙ (role-inside bodySet tt roles (s .head) tail (head-inside (s .head) (s .leaves))
+      ∙ (ap (λ (l : List ℕ). l ++ withRole roles 1 1 tail) (role-none roles argumentSet 0 (s .head) t (head-outside (s .head) (s .leaves))) ∙ body-ops .gathers roles c)))
+>>>>>>> 99baa3ee091801c55282f588fc732bb3220a1104
