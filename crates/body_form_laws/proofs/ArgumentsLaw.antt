@@ -1,19 +1,9 @@
 -- The arguments of a body: its parts are the lists of their names and of their types.
 -- Assumes nothing.
-<<<<<<< HEAD
-use mathlib.Core.Path.{_≡_, refl, sym, ap, subst, _∙_}
-use mathlib.Core.List.{List, [], _∷_, _++_}
-use mathlib.Core.Bool.{Bool, true, false, not}
-use Prim.Native.Nat.{ℕ, _<_}
-use native.Mathlib.Omega.{arith}
-use lib.Dec.{T, eqb}
-use Rattle.lists.specs.Lists.{pick}
-=======
 use mathlib.Core.List.{List, [], _∷_}
 use Prim.Native.Nat.{ℕ}
 use native.Mathlib.Omega.{arith}
 use lib.Dec.{T, eqb}
->>>>>>> 99baa3ee091801c55282f588fc732bb3220a1104
 use Rattle.scan.specs.Bytes.{among as oneOf}
 use Rattle.grammar.specs.Symbols.{ArgumentName, ArgumentType, BodyClose, Body, BodyOps, NamedBodyOps, among}
 use Rattle.grammar.specs.Grammar.{Production, grammar}
@@ -28,11 +18,7 @@ use Rattle.program.specs.Parts.{partOf, noParts, partsFrom}
 use Rattle.places.specs.Places.{inputName, inputType}
 use Rattle.source.specs.Source.{withRole}
 use Rattle.source_laws.specs.Listed.{PartListed}
-<<<<<<< HEAD
-use Rattle.source_laws.proofs.ListedLaw.{OfPart, parts-listed}
-=======
 use Rattle.source_laws.proofs.ListedLaw.{OfPart, parts-listed, sameBool, same-equal}
->>>>>>> 99baa3ee091801c55282f588fc732bb3220a1104
 use Rattle.body_form_laws.proofs.CutLaw.{bodySet}
 
 -- the symbols and roles of a body, at any depth
@@ -43,36 +29,11 @@ body-closed : (p : Production) → p ∈ grammar → T (closedIn wholeBody p)
 unfolding grammar
 body-closed p m = rule-passes (closedIn wholeBody) m tt
 
-<<<<<<< HEAD
--- two tests that agree
-abbrev agree : Bool → Bool → Bool
-agree a b = pick a b (not b)
-
-agree-same : (a b : Bool) → T (agree a b) → a ≡ b
-agree-same true true t = refl
-agree-same true false t = absurd t
-agree-same false true t = absurd t
-agree-same false false t = refl
-
-of-part : (roles : List ℕ) (k : ℕ) → T (allPass (λ r. agree (oneOf roles r) (eqb (partOf r) k)) wholeBody) → (xs : List Reading) → T (allIn wholeBody (rolesOf xs)) → OfPart roles k xs
-=======
 of-part : (roles : List ℕ) (k : ℕ) → T (allPass (λ r. sameBool (oneOf roles r) (eqb (partOf r) k)) wholeBody) → (xs : List Reading) → T (allIn wholeBody (rolesOf xs)) → OfPart roles k xs
->>>>>>> 99baa3ee091801c55282f588fc732bb3220a1104
 of-part roles k f [] t = tt
 of-part roles k f (x ∷ xs) t =
     let a = among wholeBody (x .role) in
     let b = allIn wholeBody (rolesOf xs) in
-<<<<<<< HEAD
-    (agree-same (oneOf roles (x .role)) (eqb (partOf (x .role)) k) (member-passes (λ r. agree (oneOf roles r) (eqb (partOf r) k)) wholeBody (x .role) f (both-left a b t)), of-part roles k f xs (both-right a b t))
-
-module _ (ys : List Reading) (y : Yields (Body ∷ []) (rolesOf ys)) where
-  pub arguments-listed : PartListed (partsFrom 1 noParts 0 ys) inputName (withRole (ArgumentName ∷ []) 1 0 ys)
-  unfolding partOf
-  arguments-listed = parts-listed (ArgumentName ∷ []) inputName 1 ys (omega arith) (of-part (ArgumentName ∷ []) inputName tt ys (yields-within wholeBody body-closed y tt))
-
-  pub argument-types-listed : PartListed (partsFrom 1 noParts 0 ys) inputType (withRole (ArgumentType ∷ []) 1 0 ys)
-  unfolding partOf
-=======
     (same-equal (oneOf roles (x .role)) (eqb (partOf (x .role)) k) (member-passes (λ r. sameBool (oneOf roles r) (eqb (partOf r) k)) wholeBody (x .role) f (both-left a b t)), of-part roles k f xs (both-right a b t))
 
 module _ (ys : List Reading) (y : Yields (Body ∷ []) (rolesOf ys)) where
@@ -82,5 +43,4 @@ module _ (ys : List Reading) (y : Yields (Body ∷ []) (rolesOf ys)) where
 
   pub argument-types-listed : PartListed (partsFrom 1 noParts 0 ys) inputType (withRole (ArgumentType ∷ []) 1 0 ys)
   unfolding partOf sameBool
->>>>>>> 99baa3ee091801c55282f588fc732bb3220a1104
   argument-types-listed = parts-listed (ArgumentType ∷ []) inputType 1 ys (omega arith) (of-part (ArgumentType ∷ []) inputType tt ys (yields-within wholeBody body-closed y tt))

@@ -2,13 +2,8 @@
 -- Assumes nothing.
 use mathlib.Core.Path.{_≡_, refl, sym, ap, subst, _∙_}
 use mathlib.Core.List.{List, [], _∷_, _++_, map, append-nil, append-assoc}
-<<<<<<< HEAD
-use mathlib.Core.Bool.{Bool, true, false, not, _&&_}
-use Prim.Native.Nat.{ℕ, zero, suc, _+_, _<_, _≤_, min}
-=======
 use mathlib.Core.Bool.{Bool, true, false, not}
 use Prim.Native.Nat.{ℕ, _+_, _<_, _≤_}
->>>>>>> 99baa3ee091801c55282f588fc732bb3220a1104
 use native.Mathlib.Omega.{arith}
 use native.Mathlib.Decide.{ℕ-discrete}
 use lib.Dec.{T, eqb}
@@ -21,10 +16,6 @@ use Rattle.text.specs.declared.Token.{Token}
 use Rattle.grammar.specs.Symbols.{ArgumentName, ArgumentType, BodyOpName, BodyClose, Body, Op}
 use Rattle.grammar.specs.Leaves.{Parsed}
 use Rattle.grammar.proofs.TableTest.{both, both-left, both-right, up-to}
-<<<<<<< HEAD
-use Rattle.grammar.proofs.Within.{allPass}
-=======
->>>>>>> 99baa3ee091801c55282f588fc732bb3220a1104
 use Rattle.syntax.specs.Readings.{Reading, reading, readingsOf}
 use Rattle.syntax.specs.Roles.{rolesOf, tokensOf}
 use Rattle.syntax.specs.Tokens.{kindsOf}
@@ -39,18 +30,11 @@ use Rattle.source.specs.Source.{withRole, cutFrom, opFrom}
 use Rattle.source_laws.specs.Listed.{partRoles, PartListed}
 use Rattle.source_laws.proofs.ListedLaw.{part-listed}
 use Rattle.source_laws.proofs.CutLaw.{cut-whole}
-<<<<<<< HEAD
-use Rattle.verifier.specs.BodyForm.{formedOf, formedOps}
-use Rattle.body_form_laws.proofs.LevelLaw.{not-true}
-use Rattle.body_form_laws.proofs.CutLaw.{headSet}
-use Rattle.body_form_laws.proofs.PiecesLaw.{BodyPieces, last, next, gathered, BodyShape, shaped, body-ops, body-cut, body-gathers}
-=======
 use Rattle.source_laws.proofs.OpCutLaw.{not-T}
 use Rattle.source_laws.proofs.HeaderLaw.{apartFrom}
 use Rattle.verifier.specs.BodyForm.{formedOf, formedOps}
 use Rattle.body_form_laws.proofs.CutLaw.{argumentSet}
 use Rattle.body_form_laws.proofs.PiecesLaw.{body-op, BodyPieces, last, next, gathered, BodyShape, shaped, body-ops, body-cut, body-gathers}
->>>>>>> 99baa3ee091801c55282f588fc732bb3220a1104
 use Rattle.body_form_laws.proofs.OneBodyLaw.{parts-there}
 use Rattle.body_form_laws.proofs.ArgumentsLaw.{arguments-listed, argument-types-listed}
 use Rattle.body_form_laws.proofs.OrderLaw.{Later, read-from, after-name, roles-all}
@@ -93,11 +77,7 @@ own-name body op o =
 
 -- the roles of an op's parts: none closes a body, none stands in a header
 abbrev partTest : ℕ → Bool
-<<<<<<< HEAD
-partTest k = both (not (oneOf (partRoles k) BodyClose)) (allPass (λ r. not (oneOf (partRoles k) r)) headSet)
-=======
 partTest k = both (not (oneOf (partRoles k) BodyClose)) (apartFrom (partRoles k) argumentSet)
->>>>>>> 99baa3ee091801c55282f588fc732bb3220a1104
 
 part-roles : (k : ℕ) → k < 7 → T (partTest k)
 part-roles k h = up-to 7 partTest k tt h
@@ -105,15 +85,9 @@ part-roles k h = up-to 7 partTest k tt h
 pub ops-listed : {text : List ℕ} {ys : List Reading} (s : BodyShape text ys) (k : ℕ) → k < 7 → PartListed (partsFrom 1 noParts 0 ys) k (gathered (partRoles k) (body-ops s .pieces))
 ops-listed {text} {ys} s k h =
     let a = not (oneOf (partRoles k) BodyClose) in
-<<<<<<< HEAD
-    let b = allPass (λ r. not (oneOf (partRoles k) r)) headSet in
-    subst (PartListed (partsFrom 1 noParts 0 ys) k)
-    (body-gathers s (partRoles k) (not-true (oneOf (partRoles k) BodyClose) (both-left a b (part-roles k h))) (both-right a b (part-roles k h)))
-=======
     let b = apartFrom (partRoles k) argumentSet in
     subst (PartListed (partsFrom 1 noParts 0 ys) k)
     (body-gathers s (partRoles k) (not-T (oneOf (partRoles k) BodyClose) (both-left a b (part-roles k h))) (both-right a b (part-roles k h)))
->>>>>>> 99baa3ee091801c55282f588fc732bb3220a1104
     (part-listed k 1 ys (omega arith))
 
 all-append-right : {A : Type 0} (P : A → Type 0) (xs ys : List A) → All P (xs ++ ys) → All P ys
@@ -143,11 +117,7 @@ module _ (text : List ℕ) (e : textRefusal text .number ≡ 0) (body : Parts) (
           subst (λ (o : Parts). PartListed o k (withRole (partRoles k) 0 0 p)) (sym z) (part-listed k 0 p (omega arith))
 
       one : withRole (partRoles opName) 0 0 p ≡ name .start ∷ []
-<<<<<<< HEAD
-      one = one-name false names name rest (a .naming) (a .leaves)
-=======
       one = one-name false p (body-op names name rest a)
->>>>>>> 99baa3ee091801c55282f588fc732bb3220a1104
 
       -- where it has none, what is read from the return's result on is no op with the body's first name
       no-result : lengthOf resultName p ≡ 0 → lengthOf resultName q ≡ 1 → opCounted body inside ≡ true → ⊥

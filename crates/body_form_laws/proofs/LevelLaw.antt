@@ -1,16 +1,8 @@
-<<<<<<< HEAD
--- Readings inside a body: what they are among the readings of the whole body, and read from depth 0 on. One law over the set of roles that stand outside
--- further bodies.
--- Assumes nothing.
-use mathlib.Core.Path.{_≡_, refl, sym, ap, subst, _∙_}
-use mathlib.Core.List.{List, [], _∷_, _++_, map-append}
-=======
 -- Readings inside a body: among the readings of the whole body they are what they are from depth 0 on. One law over the set of roles that stand outside further
 -- bodies.
 -- Assumes nothing.
 use mathlib.Core.Path.{_≡_, refl, sym, ap, subst, _∙_}
 use mathlib.Core.List.{List, [], _∷_, _++_}
->>>>>>> 99baa3ee091801c55282f588fc732bb3220a1104
 use mathlib.Core.Bool.{Bool, true, false, not, _&&_}
 use Prim.Native.Nat.{ℕ, zero, suc, _+_, _-_}
 use native.Mathlib.Omega.{arith}
@@ -19,19 +11,6 @@ use borrow.Author.Tests.{eqb-true, ne-eqb}
 use Rattle.lists.specs.Lists.{pick}
 use Rattle.scan.specs.Bytes.{among as oneOf}
 use Rattle.grammar.specs.Symbols.{BodyOpen, BodyClose, among}
-<<<<<<< HEAD
-use Rattle.grammar.proofs.TableTest.{both-left, both-right, or}
-use Rattle.grammar.proofs.Within.{allPass, member-passes}
-use Rattle.syntax.specs.Readings.{Reading}
-use Rattle.syntax.specs.Roles.{rolesOf}
-use Rattle.program.specs.Parts.{depthAfter}
-use Rattle.source.specs.Source.{withRole, enclosed}
-use Rattle.part_laws.proofs.DepthLaw.{outside, outside-append}
-
-pub not-true : (b : Bool) → T (not b) → b ≡ false
-not-true true t = absurd t
-not-true false t = refl
-=======
 use Rattle.grammar.proofs.TableTest.{both-left, both-right, both-make, or}
 use Rattle.syntax.specs.Readings.{Reading}
 use Rattle.syntax.specs.Roles.{rolesOf}
@@ -43,7 +22,6 @@ use Rattle.part_laws.proofs.DepthLaw.{outside, outside-append}
 use Rattle.source_laws.proofs.CutLaw.{quiet}
 use Rattle.source_laws.proofs.OpCutLaw.{not-T}
 use Rattle.source_laws.proofs.HeaderLaw.{role-append}
->>>>>>> 99baa3ee091801c55282f588fc732bb3220a1104
 
 pub roles-append : (xs ys : List Reading) → rolesOf (xs ++ ys) ≡ rolesOf xs ++ rolesOf ys
 roles-append [] ys = refl
@@ -53,18 +31,7 @@ roles-append (x ∷ xs) ys = ap (λ (l : List ℕ). x .role ∷ l) (roles-append
 pub outside-both : (set : List ℕ) (d : ℕ) (xs ys : List Reading) → T (outside set d (rolesOf xs)) → T (outside set 0 (rolesOf ys)) → T (outside set d (rolesOf (xs ++ ys)))
 outside-both set d xs ys t u = subst (λ (l : List ℕ). T (outside set d l)) (sym (roles-append xs ys)) (outside-append set d (rolesOf xs) (rolesOf ys) t u)
 
-<<<<<<< HEAD
-pick-append : (b : Bool) (s : ℕ) (l w : List ℕ) → pick b (s ∷ (l ++ w)) (l ++ w) ≡ pick b (s ∷ l) l ++ w
-pick-append true s l w = refl
-pick-append false s l w = refl
-
-pick-none : (b : Bool) (s : ℕ) → b ≡ false → pick b (s ∷ []) [] ≡ []
-pick-none b s e = rw e
-
-pub same-level : (d : ℕ) → eqb (suc d) 1 ≡ eqb d 0
-=======
 same-level : (d : ℕ) → eqb (suc d) 1 ≡ eqb d 0
->>>>>>> 99baa3ee091801c55282f588fc732bb3220a1104
 same-level zero = refl
 same-level (suc d) = ne-eqb (suc (suc d)) 1 (λ e. omega arith) ∙ sym (ne-eqb (suc d) 0 (λ e. omega arith))
 
@@ -80,19 +47,13 @@ module _ (set : List ℕ) (none : T (not (among set BodyClose))) where
   no-close r t = go (eqb r BodyClose) refl
     where
       go : (b : Bool) → eqb r BodyClose ≡ b → b ≡ false
-<<<<<<< HEAD
-      go true q = absurd (subst T (not-true (among set BodyClose) none) (subst (λ (n : ℕ). T (among set n)) (eqb-true r BodyClose q) t))
-=======
       go true q = absurd (subst T (not-T (among set BodyClose) none) (subst (λ (n : ℕ). T (among set n)) (eqb-true r BodyClose q) t))
->>>>>>> 99baa3ee091801c55282f588fc732bb3220a1104
       go false q = refl
 
   pub deeper : (d r : ℕ) → T (or (ltb 0 d) (among set r)) → depthAfter (suc d) r ≡ suc (depthAfter d r)
   unfolding depthAfter
   deeper d r t = deeper-case d (eqb r BodyOpen) (eqb r BodyClose) (λ e. no-close r (subst (λ (n : ℕ). T (or (ltb 0 n) (among set r))) e t))
 
-<<<<<<< HEAD
-=======
   -- the body is still open after them
   pub through-inside : (d : ℕ) (ls : List ℕ) → T (outside set d ls) → depthThrough (suc d) ls ≡ 1
   through-inside d [] t = ap suc (eqb→eq d 0 t)
@@ -131,7 +92,6 @@ module _ (set : List ℕ) (none : T (not (among set BodyClose))) where
       role-append roles 1 1 xs zs
       ∙ (ap (λ (n : ℕ). withRole roles 1 1 xs ++ withRole roles 1 n zs) (through-inside 0 (rolesOf xs) t) ∙ ap (λ (l : List ℕ). l ++ withRole roles 1 1 zs) (role-same roles 0 xs t))
 
->>>>>>> 99baa3ee091801c55282f588fc732bb3220a1104
   -- the readings of a body end at its brace
   pub enclosed-inside : (d : ℕ) (xs : List Reading) (c : Reading) (others : List Reading) → T (outside set d (rolesOf xs)) → c .role ≡ BodyClose →
       enclosed (suc d) (xs ++ (c ∷ others)) ≡ xs ++ (c ∷ [])
@@ -140,56 +100,7 @@ module _ (set : List ℕ) (none : T (not (among set BodyClose))) where
   enclosed-inside d (x ∷ xs) c others t e =
       let a = or (ltb 0 d) (among set (x .role)) in
       let b = outside set (depthAfter d (x .role)) (rolesOf xs) in
-<<<<<<< HEAD
-      let q = deeper d (x .role) (both-left a b t) in
-      let n = depthAfter d (x .role) in
-      let i = enclosed-inside n xs c others (both-right a b t) e in
-      ap (λ (m : ℕ). pick (eqb m 0) (x ∷ []) (x ∷ enclosed m (xs ++ (c ∷ others)))) q
-      ∙ (ap (λ (f : Bool). pick f (x ∷ []) (x ∷ enclosed (suc n) (xs ++ (c ∷ others)))) (ne-eqb (suc n) 0 (λ z. omega arith)) ∙ ap (λ (l : List Reading). x ∷ l) i)
-
-  -- the tokens of some roles in a body: those of its readings as they are read from depth 0 on
-  pub role-inside : (roles : List ℕ) (d : ℕ) (xs zs : List Reading) → T (outside set d (rolesOf xs)) → withRole roles 1 (suc d) (xs ++ zs) ≡ withRole roles 0 d xs ++ withRole roles 1 1 zs
-  role-inside roles d [] zs t = ap (λ (n : ℕ). withRole roles 1 (suc n) zs) (eqb→eq d 0 t)
-  role-inside roles d (x ∷ xs) zs t =
-      let a = or (ltb 0 d) (among set (x .role)) in
-      let b = outside set (depthAfter d (x .role)) (rolesOf xs) in
-      let q = deeper d (x .role) (both-left a b t) in
-      let n = depthAfter d (x .role) in
-      let l = withRole roles 0 n xs in
-      let w = withRole roles 1 1 zs in
-      let i : withRole roles 1 (suc n) (xs ++ zs) ≡ l ++ w = role-inside roles n xs zs (both-right a b t) in
-      let s = x .token .start in
-      ap (λ (m : ℕ). pick (eqb (suc d) 1 && oneOf roles (x .role)) (s ∷ withRole roles 1 m (xs ++ zs)) (withRole roles 1 m (xs ++ zs))) q
-      ∙ (ap (λ (y : List ℕ). pick (eqb (suc d) 1 && oneOf roles (x .role)) (s ∷ y) y) i
-      ∙ (ap (λ (f : Bool). pick (f && oneOf roles (x .role)) (s ∷ (l ++ w)) (l ++ w)) (same-level d) ∙ pick-append (eqb d 0 && oneOf roles (x .role)) s l w))
-
--- one after the other, from depth 0 on
-pub role-append : (set roles : List ℕ) (d : ℕ) (xs zs : List Reading) → T (outside set d (rolesOf xs)) → withRole roles 0 d (xs ++ zs) ≡ withRole roles 0 d xs ++ withRole roles 0 0 zs
-role-append set roles d [] zs t = ap (λ (n : ℕ). withRole roles 0 n zs) (eqb→eq d 0 t)
-role-append set roles d (x ∷ xs) zs t =
-    let a = or (ltb 0 d) (among set (x .role)) in
-    let b = outside set (depthAfter d (x .role)) (rolesOf xs) in
-    let n = depthAfter d (x .role) in
-    let l = withRole roles 0 n xs in
-    let w = withRole roles 0 0 zs in
-    let s = x .token .start in
-    ap (λ (y : List ℕ). pick (eqb d 0 && oneOf roles (x .role)) (s ∷ y) y) (role-append set roles n xs zs (both-right a b t)) ∙ pick-append (eqb d 0 && oneOf roles (x .role)) s l w
-
--- no token of the roles, none of the set being one of them
-pub role-none : (set roles : List ℕ) → T (allPass (λ r. not (oneOf roles r)) set) → (d : ℕ) (xs : List Reading) → T (outside set d (rolesOf xs)) → withRole roles 0 d xs ≡ []
-role-none set roles f d [] t = refl
-role-none set roles f d (x ∷ xs) t =
-    let a = or (ltb 0 d) (among set (x .role)) in
-    let b = outside set (depthAfter d (x .role)) (rolesOf xs) in
-    ap (λ (y : List ℕ). pick (eqb d 0 && oneOf roles (x .role)) (x .token .start ∷ y) y) (role-none set roles f (depthAfter d (x .role)) xs (both-right a b t))
-    ∙ pick-none (eqb d 0 && oneOf roles (x .role)) (x .token .start) (off d (both-left a b t))
-  where
-    off : (d : ℕ) → T (or (ltb 0 d) (among set (x .role))) → eqb d 0 && oneOf roles (x .role) ≡ false
-    off zero u = not-true (oneOf roles (x .role)) (member-passes (λ r. not (oneOf roles r)) set (x .role) f u)
-    off (suc n) u = rw (ne-eqb (suc n) 0 (λ z. omega arith))
-=======
       let n = depthAfter d (x .role) in
       let i = enclosed-inside n xs c others (both-right a b t) e in
       ap (λ (m : ℕ). pick (eqb m 0) (x ∷ []) (x ∷ enclosed m (xs ++ (c ∷ others)))) (deeper d (x .role) (both-left a b t))
       ∙ (ap (λ (f : Bool). pick f (x ∷ []) (x ∷ enclosed (suc n) (xs ++ (c ∷ others)))) (ne-eqb (suc n) 0 (λ z. omega arith)) ∙ ap (λ (l : List Reading). x ∷ l) i)
->>>>>>> 99baa3ee091801c55282f588fc732bb3220a1104

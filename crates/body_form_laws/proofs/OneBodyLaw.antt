@@ -3,16 +3,6 @@
 use mathlib.Core.Path.{_≡_, refl, sym, ap, subst, _∙_}
 use mathlib.Core.List.{List, [], _∷_, _++_, map, append-nil, append-assoc}
 use mathlib.Core.Bool.{Bool, true, false, _&&_}
-<<<<<<< HEAD
-use Prim.Native.Nat.{ℕ, zero, suc, _+_, _<_}
-use native.Mathlib.Omega.{arith}
-use lib.Dec.{eqb}
-use lib.ListN.{length, getD}
-use borrow.Author.Tests.{eqb-true, ne-eqb, eqb-false, le-ltb}
-use Rattle.lists.specs.Lists.{pick, All, concat}
-use Rattle.lists.proofs.AllLaw.{all-get}
-use Rattle.grammar.specs.Symbols.{BodyOpen, OpName, Body, Op}
-=======
 use Prim.Native.Nat.{ℕ, _+_, _<_}
 use native.Mathlib.Omega.{arith}
 use lib.Dec.{eqb}
@@ -20,15 +10,10 @@ use lib.ListN.{length, getD}
 use borrow.Author.Tests.{eqb-true, eqb-false, le-ltb}
 use Rattle.lists.specs.Lists.{pick, All, concat}
 use Rattle.grammar.specs.Symbols.{BodyOpen, Body, Op}
->>>>>>> 99baa3ee091801c55282f588fc732bb3220a1104
 use Rattle.syntax.specs.Readings.{Reading, readingsOf, readings}
 use Rattle.syntax.specs.Roles.{rolesOf, tokensOf}
 use Rattle.syntax.specs.Tokens.{kindsOf}
 use Rattle.grammar.specs.Leaves.{Parsed}
-<<<<<<< HEAD
-use Rattle.syntax.specs.OpsAlone.{OpAlone, Outline}
-=======
->>>>>>> 99baa3ee091801c55282f588fc732bb3220a1104
 use Rattle.syntax.specs.BodiesAlone.{BodyOutline}
 use Rattle.syntax.proofs.BodyLaw.{bodies}
 use Rattle.syntax.proofs.Theorems.{no-fault}
@@ -37,14 +22,6 @@ use Rattle.judge.proofs.Theorems.{accepted-sentence}
 use Rattle.program.specs.Parts.{depthAfter, noParts, partsFrom, partsOf, partsAt, opAt}
 use Rattle.program.specs.Program.{programOf}
 use Rattle.places.specs.Places.{bodyOpen, placeOf}
-<<<<<<< HEAD
-use Rattle.source.specs.Source.{withRole, Cut, cutFrom, enclosed, opFrom}
-use Rattle.reading_laws.proofs.DepthLaw.{depthThrough, yields-depth, depth-append}
-use Rattle.reading_laws.proofs.OpsLaw.{few-bytes, outlined, op-count, op-place}
-use Rattle.source_laws.specs.Listed.{firstPlace}
-use Rattle.source_laws.proofs.ListedLaw.{part-listed}
-use Rattle.source_laws.proofs.CutLaw.{ahead, opened, cut-whole, cut-begins, cut-places, BeginsWith}
-=======
 use Rattle.scope.specs.Scope.{begins}
 use Rattle.source.specs.Source.{Cut, cutFrom, enclosed, opFrom}
 use Rattle.reading_laws.proofs.DepthLaw.{depthThrough, yields-depth, depth-append}
@@ -55,43 +32,10 @@ use Rattle.source_laws.proofs.ListedLaw.{part-listed}
 use Rattle.source_laws.proofs.CutLaw.{ahead, opened, cut-whole, cut-begins, cut-places, BeginsWith}
 use Rattle.source_laws.proofs.PiecesLaw.{pieces-are-ops}
 use Rattle.source_laws.proofs.OpItemsLaw.{piece-stands}
->>>>>>> 99baa3ee091801c55282f588fc732bb3220a1104
 use Rattle.body_form_laws.specs.SameBody.{OpStands}
 use Rattle.body_form_laws.proofs.LevelLaw.{roles-append}
 use Rattle.body_form_laws.proofs.PiecesLaw.{shaped, enclosed-body}
 
-<<<<<<< HEAD
--- ---- the ops of a text
-
-record Amid (f : ℕ → List Reading) (at : ℕ) (xs : List Reading) : Type 0 where
-  pre : List Reading
-  post : List Reading
-  whole : xs ≡ pre ++ (f at ++ post)
-
-amid : (f : ℕ → List Reading) (ops : List ℕ) (k : ℕ) → k < length ops → Amid f (getD ops k 0) (concat (map f ops))
-unfolding concat
-amid f [] k h = absurd (omega arith)
-amid f (a ∷ ops) zero h = record { pre = []; post = concat (map f ops); whole = refl }
-amid f (a ∷ ops) (suc k) h =
-    let m = amid f ops k (omega arith) in
-    record { pre = f a ++ m .pre; post = m .post; whole = ap (λ (l : List Reading). f a ++ l) (m .whole) ∙ sym (append-assoc (f a) (m .pre) _) }
-
--- each op but the return stands in the text
-pub op-stands : (text : List ℕ) → textRefusal text .number ≡ 0 → (k : ℕ) → k + 1 < programOf text .count → OpStands text (getD (programOf text .ops) k 0)
-op-stands text e k h =
-    let o = outlined text e in
-    let c = op-count text e o in
-    let l : k < length (o .ops) = omega arith in
-    let m = amid (readingsOf Op text) (o .ops) k l in
-    let at = getD (o .ops) k 0 in
-    let more = readingsOf Op text (o .last) ++ o .closing in
-    let w : readings text ≡ (o .header ++ m .pre) ++ (readingsOf Op text at ++ (m .post ++ more)) =
-    o .whole ∙ (ap (λ (y : List Reading). o .header ++ (y ++ more)) (m .whole)
-    ∙ (ap (λ (y : List Reading). o .header ++ y) (append-assoc (m .pre) (readingsOf Op text at ++ m .post) more
-    ∙ ap (λ (y : List Reading). m .pre ++ y) (append-assoc (readingsOf Op text at) (m .post) more)) ∙ sym (append-assoc (o .header) (m .pre) _))) in
-    subst (OpStands text) (sym (op-place text e o k l))
-    (record { alone = all-get (OpAlone text OpName) (o .ops) 0 (o .each) k l; pre = o .header ++ m .pre; post = m .post ++ more; whole = w })
-=======
 -- each op of a text but the return stands in it
 pub op-stands : (text : List ℕ) → textRefusal text .number ≡ 0 → (k : ℕ) → k + 1 < programOf text .count → OpStands text (opPlace text k)
 op-stands text e k h =
@@ -104,7 +48,6 @@ op-stands text e k h =
       post = s .post;
       whole = s .whole ∙ ap (λ (l : List Reading). s .pre ++ (l ++ s .post)) (a .each k h);
     }
->>>>>>> 99baa3ee091801c55282f588fc732bb3220a1104
 
 -- ---- depths
 

@@ -1,16 +1,5 @@
 -- One op of a body as a piece: it has one quoted name; its parts are those of the op as it is read alone from its first byte, which is that of its first result.
 -- Assumes nothing.
-<<<<<<< HEAD
-use mathlib.Core.Path.{_≡_, refl, sym, ap, subst, _∙_}
-use mathlib.Core.List.{List, [], _∷_, _++_, append-nil}
-use mathlib.Core.Bool.{Bool, true, false, _&&_, _||_}
-use Prim.Native.Nat.{ℕ, zero, suc, _+_, _<_}
-use native.Mathlib.Omega.{arith}
-use lib.Dec.{eqb}
-use lib.ListN.{length, getD, length-append}
-use Rattle.lists.specs.Lists.{pick}
-use Rattle.scan.specs.Bytes.{among as oneOf}
-=======
 use mathlib.Core.Path.{_≡_, refl, ap, _∙_}
 use mathlib.Core.List.{List, [], _∷_, _++_}
 use mathlib.Core.Bool.{Bool, true, false, _||_}
@@ -19,7 +8,6 @@ use native.Mathlib.Omega.{arith}
 use lib.Dec.{eqb}
 use lib.ListN.{length, getD}
 use Rattle.lists.specs.Lists.{pick}
->>>>>>> 99baa3ee091801c55282f588fc732bb3220a1104
 use Rattle.text.specs.Lex.{tokenAt}
 use Rattle.text.specs.declared.Token.{Token}
 use Rattle.grammar.specs.Symbols.{ResultName, OpName, FuncReturn, OpRest, BodyOpName, BodyReturn, BodyClose, Op}
@@ -29,16 +17,6 @@ use Rattle.grammar.proofs.Leaves.{leading}
 use Rattle.syntax.specs.Kinds.{kindOf}
 use Rattle.syntax.specs.Readings.{Reading, reading, labelled, readingsFrom, readingsOf}
 use Rattle.syntax.specs.Roles.{rolesOf}
-<<<<<<< HEAD
-use Rattle.syntax.specs.OpsAlone.{Naming, unnamed, results, OpParts}
-use Rattle.syntax.specs.BodiesAlone.{BodyOpAlone}
-use Rattle.program.specs.declared.Parts.{Parts}
-use Rattle.program.specs.Parts.{partOf, noParts, noted, depthAfter, partsFrom}
-use Rattle.source.specs.Source.{withRole}
-use Rattle.body_form_laws.proofs.LevelLaw.{role-append, role-none}
-use Rattle.body_form_laws.proofs.CutLaw.{restSet, nameSet, bodySet, quotedBy}
-use Rattle.body_form_laws.proofs.PiecesLaw.{names-outside, rest-outside, return-inside, close-none, BodyPieces, last, next, gathered}
-=======
 use Rattle.syntax.specs.OpsAlone.{Naming, results, OpParts}
 use Rattle.syntax.specs.BodiesAlone.{BodyOpAlone}
 use Rattle.program.specs.declared.Parts.{Parts}
@@ -48,7 +26,6 @@ use Rattle.source_laws.proofs.OpCutLaw.{restSet}
 use Rattle.source_laws.proofs.HeaderLaw.{role-none, role-past}
 use Rattle.body_form_laws.proofs.CutLaw.{resultSet, quotedBy, results-outside, rest-outside}
 use Rattle.body_form_laws.proofs.PiecesLaw.{body-op, BodyPieces, last, next, gathered, close-after}
->>>>>>> 99baa3ee091801c55282f588fc732bb3220a1104
 
 abbrev quoted : List ℕ
 quoted = OpName ∷ FuncReturn ∷ BodyOpName ∷ BodyReturn ∷ []
@@ -57,32 +34,6 @@ quoted = OpName ∷ FuncReturn ∷ BodyOpName ∷ BodyReturn ∷ []
 
 named-first : (b : Bool) (name : Token) (rest : List Reading) → Yields (OpRest ∷ []) (rolesOf rest) → withRole quoted 0 0 (reading true (quotedBy b) name ∷ rest) ≡ name .start ∷ []
 unfolding depthAfter
-<<<<<<< HEAD
-named-first true name rest y = ap (λ (l : List ℕ). name .start ∷ l) (role-none restSet quoted tt 0 rest (rest-outside rest y))
-named-first false name rest y = ap (λ (l : List ℕ). name .start ∷ l) (role-none restSet quoted tt 0 rest (rest-outside rest y))
-
-pub one-name : (b : Bool) (names : List Reading) (name : Token) (rest : List Reading) → Naming (rolesOf names) → Yields (OpRest ∷ []) (rolesOf rest) →
-    withRole quoted 0 0 (names ++ (reading true (quotedBy b) name ∷ rest)) ≡ name .start ∷ []
-one-name b names name rest i y =
-    role-append nameSet quoted 0 names (reading true (quotedBy b) name ∷ rest) (names-outside names i)
-    ∙ (ap (λ (l : List ℕ). l ++ withRole quoted 0 0 (reading true (quotedBy b) name ∷ rest)) (role-none nameSet quoted tt 0 names (names-outside names i)) ∙ named-first b name rest y)
-
-module _ (close : Reading) (shut : close .role ≡ BodyClose) where
-  -- the closing brace is no token of an op
-  close-after : (roles : List ℕ) → oneOf roles BodyClose ≡ false → (xs : List Reading) → OpParts BodyReturn xs → withRole roles 0 0 (xs ++ (close ∷ [])) ≡ withRole roles 0 0 xs
-  close-after roles c xs o =
-      role-append bodySet roles 0 xs (close ∷ []) (return-inside xs o) ∙ (ap (λ (l : List ℕ). withRole roles 0 0 xs ++ l) (close-none [] close shut roles 0 0 c) ∙ append-nil (withRole roles 0 0 xs))
-
-  return-name : (xs : List Reading) (o : OpParts BodyReturn xs) → withRole quoted 0 0 (xs ++ (close ∷ [])) ≡ o .name .start ∷ []
-  return-name xs o = close-after quoted refl xs o ∙ (ap (withRole quoted 0 0) (o .whole) ∙ one-name true (o .names) (o .name) (o .rest) (o .naming) (o .leaves))
-
-  -- as many quoted names as pieces
-  pub names-count : {text : List ℕ} {ps : List (List Reading)} → BodyPieces text close ps → length (gathered quoted ps) ≡ length ps
-  names-count (last {xs} o) = ap (λ (l : List ℕ). length (l ++ [])) (return-name xs o)
-  names-count (next names name rest {ps} a v) =
-      let i = names-count v in
-      ap (λ (l : List ℕ). length (l ++ gathered quoted ps)) (one-name false names name rest (a .naming) (a .leaves)) ∙ ap suc i
-=======
 named-first true name rest y = ap (λ (l : List ℕ). name .start ∷ l) (role-none quoted restSet 0 rest tt (rest-outside rest y))
 named-first false name rest y = ap (λ (l : List ℕ). name .start ∷ l) (role-none quoted restSet 0 rest tt (rest-outside rest y))
 
@@ -96,7 +47,6 @@ pub names-count : (close : Reading) → close .role ≡ BodyClose → {text : Li
 names-count close shut (last {xs} o) = ap (λ (l : List ℕ). length (l ++ [])) (close-after [] close shut quoted refl xs ∙ one-name true xs o)
 names-count close shut (next names name rest {ps} a v) =
     ap (λ (l : List ℕ). length (l ++ gathered quoted ps)) (one-name false (names ++ (reading true BodyOpName name ∷ rest)) (body-op names name rest a)) ∙ ap suc (names-count close shut v)
->>>>>>> 99baa3ee091801c55282f588fc732bb3220a1104
 
 -- ---- as it is read alone
 
@@ -129,11 +79,7 @@ head-token text at y ys e = head-from (length text + 1) Op text at y ys e
 -- no result name after the quoted one
 no-results : (name : Token) (rest : List Reading) → Yields (OpRest ∷ []) (rolesOf rest) → withRole (ResultName ∷ []) 0 0 (reading true BodyOpName name ∷ rest) ≡ []
 unfolding depthAfter
-<<<<<<< HEAD
-no-results name rest y = role-none restSet (ResultName ∷ []) tt 0 rest (rest-outside rest y)
-=======
 no-results name rest y = role-none (ResultName ∷ []) restSet 0 rest tt (rest-outside rest y)
->>>>>>> 99baa3ee091801c55282f588fc732bb3220a1104
 
 result-first : (n : Reading) (zs : List Reading) → n .role ≡ ResultName → getD (withRole (ResultName ∷ []) 0 0 (n ∷ zs)) 0 0 ≡ n .token .start
 result-first n zs e = ap (λ (r : ℕ). getD (pick (eqb r ResultName || false) (n .token .start ∷ withRole (ResultName ∷ []) 0 (depthAfter 0 (n .role)) zs) (withRole (ResultName ∷ []) 0 (depthAfter 0 (n .role)) zs)) 0 0) e

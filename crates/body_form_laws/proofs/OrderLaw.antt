@@ -1,20 +1,12 @@
 -- What is read after a token starts after it.
 -- Assumes nothing.
-<<<<<<< HEAD
-use mathlib.Core.Path.{_≡_, refl, sym, ap, subst, _∙_}
-=======
 use mathlib.Core.Path.{_≡_, sym, ap, subst, _∙_}
->>>>>>> 99baa3ee091801c55282f588fc732bb3220a1104
 use mathlib.Core.List.{List, [], _∷_, _++_}
 use mathlib.Core.Bool.{Bool, true, false, _&&_}
 use Prim.Native.Nat.{ℕ, zero, suc, _+_, _<_, _≤_}
 use native.Mathlib.Omega.{arith}
 use lib.Dec.{eqb}
-<<<<<<< HEAD
-use lib.ListN.{length, getD}
-=======
 use lib.ListN.{length}
->>>>>>> 99baa3ee091801c55282f588fc732bb3220a1104
 use Rattle.lists.specs.Lists.{pick, All}
 use Rattle.lists.proofs.AllLaw.{all-map}
 use Rattle.scan.specs.Bytes.{among as oneOf}
@@ -23,11 +15,7 @@ use Rattle.text.specs.declared.Token.{Token}
 use Rattle.text.proofs.TokenLaw.{token-after, token-ordered, token-moves}
 use Rattle.grammar.specs.Symbols.{BodyOpName, END, leafKinds, matches}
 use Rattle.grammar.specs.Machine.{Cell, fails, skips, takes, step}
-<<<<<<< HEAD
-use Rattle.grammar.specs.Leaves.{StandFor, no-more, allowed}
-=======
 use Rattle.grammar.specs.Leaves.{StandFor, allowed}
->>>>>>> 99baa3ee091801c55282f588fc732bb3220a1104
 use Rattle.syntax.specs.Kinds.{kindOf}
 use Rattle.syntax.specs.Tokens.{kindsOf}
 use Rattle.syntax.specs.Readings.{Reading, reading, labelled, readingsFrom, readingsOf}

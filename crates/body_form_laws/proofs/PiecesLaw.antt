@@ -2,84 +2,23 @@
 -- Assumes nothing.
 use mathlib.Core.Path.{_≡_, refl, sym, ap, subst, _∙_}
 use mathlib.Core.List.{List, [], _∷_, _++_, append-nil, append-assoc}
-<<<<<<< HEAD
-use mathlib.Core.Bool.{Bool, true, false, not, _&&_}
-use Prim.Native.Nat.{ℕ, zero, suc}
-=======
 use mathlib.Core.Bool.{Bool, true, false, _&&_}
 use Prim.Native.Nat.{ℕ}
->>>>>>> 99baa3ee091801c55282f588fc732bb3220a1104
 use native.Mathlib.Omega.{arith}
 use lib.Dec.{T, eqb}
 use Rattle.lists.specs.Lists.{pick}
 use Rattle.text.specs.declared.Token.{Token}
 use Rattle.scan.specs.Bytes.{among as oneOf}
-<<<<<<< HEAD
-use Rattle.grammar.specs.Symbols.{ResultName, OpName, FuncReturn, OpRest, BodyOpen, BodyLabel, BodyOpName, BodyReturn, BodyClose, Body, MoreResults, Arguments, equals, lparen, rparen, colon, among}
-use Rattle.grammar.specs.Leaves.{Yields}
-use Rattle.grammar.proofs.Leaves.{leading}
-use Rattle.grammar.proofs.Within.{allPass}
-use Rattle.syntax.specs.Readings.{Reading, reading, readingsOf}
-use Rattle.syntax.specs.Roles.{rolesOf}
-use Rattle.syntax.specs.OpsAlone.{Naming, unnamed, results, OpParts}
-=======
 use Rattle.grammar.specs.Symbols.{BodyOpen, BodyLabel, BodyOpName, BodyReturn, BodyClose, Body, Arguments, lparen, rparen, colon}
 use Rattle.grammar.specs.Leaves.{Yields}
 use Rattle.grammar.proofs.Leaves.{leading}
 use Rattle.syntax.specs.Readings.{Reading, reading, readingsOf}
 use Rattle.syntax.specs.Roles.{rolesOf}
 use Rattle.syntax.specs.OpsAlone.{OpParts}
->>>>>>> 99baa3ee091801c55282f588fc732bb3220a1104
 use Rattle.syntax.specs.BodiesAlone.{BodyOpAlone, BodyOpsRead, return, op, BodyOutline}
 use Rattle.program.specs.Parts.{depthAfter}
 use Rattle.scope.specs.Scope.{begins}
 use Rattle.source.specs.Source.{withRole, Cut, cutFrom, enclosed}
-<<<<<<< HEAD
-use Rattle.part_laws.proofs.DepthLaw.{outside, yields-outside}
-use Rattle.body_form_laws.proofs.LevelLaw.{outside-both, enclosed-inside, role-inside, role-append, role-none}
-use Rattle.body_form_laws.proofs.CutLaw.{restSet, nameSet, headSet, bodySet, keeps-rest, keeps-names, keeps-head, keeps-body, lastOf, Apart, head-last, cut-past, quotedBy, following-apart, cut-op}
-
--- ---- an op of a body, by roles
-
--- result names, or none
-pub naming-case : {ls : List ℕ} (C : List ℕ → Type 0) → Naming ls → C [] → ((ms : List ℕ) → Yields (ResultName ∷ MoreResults ∷ equals ∷ []) ms → C ms) → C ls
-naming-case C unnamed x f = x
-naming-case C (results {ls} y) x f = f ls y
-
-pub names-outside : (names : List Reading) → Naming (rolesOf names) → T (outside nameSet 0 (rolesOf names))
-unfolding depthAfter
-names-outside names i = naming-case (λ (l : List ℕ). T (outside nameSet 0 l)) i tt (λ ms y. yields-outside nameSet keeps-names y 0 tt)
-
-names-inside : (names : List Reading) → Naming (rolesOf names) → T (outside bodySet 0 (rolesOf names))
-unfolding depthAfter
-names-inside names i = naming-case (λ (l : List ℕ). T (outside bodySet 0 l)) i tt (λ ms y. yields-outside bodySet keeps-body y 0 tt)
-
-pub rest-outside : (rest : List Reading) → Yields (OpRest ∷ []) (rolesOf rest) → T (outside restSet 0 (rolesOf rest))
-unfolding depthAfter
-rest-outside rest y = yields-outside restSet keeps-rest y 0 tt
-
-rest-inside : (rest : List Reading) → Yields (OpRest ∷ []) (rolesOf rest) → T (outside bodySet 0 (rolesOf rest))
-unfolding depthAfter
-rest-inside rest y = yields-outside bodySet keeps-body y 0 tt
-
-named-inside : (b : Bool) (name : Token) (rest : List Reading) → Yields (OpRest ∷ []) (rolesOf rest) → T (outside bodySet 0 (rolesOf (reading true (quotedBy b) name ∷ rest)))
-unfolding depthAfter
-named-inside true name rest y = rest-inside rest y
-named-inside false name rest y = rest-inside rest y
-
-pub op-inside : (b : Bool) (names : List Reading) (name : Token) (rest : List Reading) → Naming (rolesOf names) → Yields (OpRest ∷ []) (rolesOf rest) →
-    T (outside bodySet 0 (rolesOf (names ++ (reading true (quotedBy b) name ∷ rest))))
-op-inside b names name rest i y = outside-both bodySet 0 names (reading true (quotedBy b) name ∷ rest) (names-inside names i) (named-inside b name rest y)
-
-pub return-inside : (xs : List Reading) → OpParts BodyReturn xs → T (outside bodySet 0 (rolesOf xs))
-return-inside xs o = subst (λ (l : List Reading). T (outside bodySet 0 (rolesOf l))) (sym (o .whole)) (op-inside true (o .names) (o .name) (o .rest) (o .naming) (o .leaves))
-
-pub ops-inside : {text : List ℕ} {ops : List Reading} → BodyOpsRead text ops → T (outside bodySet 0 (rolesOf ops))
-ops-inside (return {xs} o) = return-inside xs o
-ops-inside (op names name rest {more} a m) =
-    subst (λ (l : List Reading). T (outside bodySet 0 (rolesOf l))) (append-assoc names (reading true BodyOpName name ∷ rest) more)
-    (outside-both bodySet 0 (names ++ (reading true BodyOpName name ∷ rest)) more (op-inside false names name rest (a .naming) (a .leaves)) (ops-inside m))
-=======
 use Rattle.reading_laws.proofs.DepthLaw.{depthThrough}
 use Rattle.part_laws.proofs.DepthLaw.{outside}
 use Rattle.source_laws.proofs.CutLaw.{lastRole, opened}
@@ -99,7 +38,6 @@ ops-inside (return {xs} o) = op-inside true xs o
 ops-inside (op names name rest {more} a m) =
     subst (λ (l : List Reading). T (outside bodySet 0 (rolesOf l))) (append-assoc names (reading true BodyOpName name ∷ rest) more)
     (outside-both bodySet 0 (names ++ (reading true BodyOpName name ∷ rest)) more (op-inside false (names ++ (reading true BodyOpName name ∷ rest)) (body-op names name rest a)) (ops-inside m))
->>>>>>> 99baa3ee091801c55282f588fc732bb3220a1104
 
 -- ---- the pieces
 
@@ -117,11 +55,7 @@ gathered roles (p ∷ ps) = withRole roles 0 0 p ++ gathered roles ps
 pub record OpsCut (text : List ℕ) (close : Reading) (ops : List Reading) : Type 0 where
   pub pieces : List (List Reading)
   pub view : BodyPieces text close pieces
-<<<<<<< HEAD
-  pub cut : (role : ℕ) → Apart role → cutFrom begins 1 role 1 (ops ++ (close ∷ [])) ≡ record { before = []; pieces = pieces }
-=======
   pub cut : (role : ℕ) → T (free role) → cutFrom begins 1 role 1 (ops ++ (close ∷ [])) ≡ record { before = []; pieces = pieces }
->>>>>>> 99baa3ee091801c55282f588fc732bb3220a1104
   pub gathers : (roles : List ℕ) → oneOf roles BodyClose ≡ false → withRole roles 1 1 (ops ++ (close ∷ [])) ≡ gathered roles pieces
 
 module _ (text : List ℕ) (close : Reading) (shut : close .role ≡ BodyClose) where
@@ -136,60 +70,26 @@ module _ (text : List ℕ) (close : Reading) (shut : close .role ≡ BodyClose) 
       go true q = rw q
       go false q = refl
 
-<<<<<<< HEAD
-  cut-return : (xs : List Reading) → OpParts BodyReturn xs → (role : ℕ) → Apart role → cutFrom begins 1 role 1 (xs ++ (close ∷ [])) ≡ record { before = []; pieces = (xs ++ (close ∷ [])) ∷ [] }
-  cut-return xs o role a =
-      let x = reading true BodyReturn (o .name) in
-      let zs = close ∷ [] in
-      let e : xs ++ zs ≡ o .names ++ (x ∷ (o .rest ++ zs)) = ap (λ (l : List Reading). l ++ zs) (o .whole) ∙ append-assoc (o .names) (x ∷ o .rest) zs in
-      ap (λ (l : List Reading). cutFrom begins 1 role 1 l) e
-      ∙ (cut-op true x refl (o .rest) zs (o .leaves) role a (o .names) (o .naming)
-      ∙ (ap (λ (c : Cut). record { before = []; pieces = (o .names ++ (x ∷ (o .rest ++ c .before))) ∷ c .pieces }) (close-cut (lastOf BodyReturn (rolesOf (o .rest))))
-      ∙ ap (λ (l : List Reading). record { before = []; pieces = l ∷ [] }) (sym e)))
-=======
   -- it is no token of the return
   pub close-after : (roles : List ℕ) → oneOf roles BodyClose ≡ false → (xs : List Reading) → withRole roles 0 0 (xs ++ (close ∷ [])) ≡ withRole roles 0 0 xs
   close-after roles e xs =
       role-append roles 0 0 xs (close ∷ []) ∙ (ap (λ (l : List ℕ). withRole roles 0 0 xs ++ l) (close-none roles 0 (depthThrough 0 (rolesOf xs)) e) ∙ append-nil (withRole roles 0 0 xs))
->>>>>>> 99baa3ee091801c55282f588fc732bb3220a1104
 
   pub ops-cut : {ops : List Reading} → BodyOpsRead text ops → OpsCut text close ops
   ops-cut (return {xs} o) =
       record {
         pieces = (xs ++ (close ∷ [])) ∷ [];
         view = last o;
-<<<<<<< HEAD
-        cut = cut-return xs o;
-        gathers = λ roles e.
-            role-inside bodySet tt roles 0 xs (close ∷ []) (return-inside xs o) ∙ (ap (λ (l : List ℕ). withRole roles 0 0 xs ++ l) (close-none roles 1 1 e ∙ sym (close-none roles 0 0 e))
-            ∙ (sym (role-append bodySet roles 0 xs (close ∷ []) (return-inside xs o)) ∙ sym (append-nil (withRole roles 0 0 (xs ++ (close ∷ []))))));
-=======
         cut = λ role t. cut-op true role t xs (close ∷ []) o .0 ∙ ap (opened xs) (close-cut (lastRole role (rolesOf xs)));
         gathers = λ roles e.
             role-inside bodySet tt roles xs (close ∷ []) (op-inside true xs o)
             ∙ (ap (λ (l : List ℕ). withRole roles 0 0 xs ++ l) (close-none roles 1 1 e) ∙ (append-nil (withRole roles 0 0 xs) ∙ sym (append-nil (withRole roles 0 0 (xs ++ (close ∷ []))) ∙ close-after roles e xs)));
->>>>>>> 99baa3ee091801c55282f588fc732bb3220a1104
       }
   ops-cut (op names name rest {more} a m) =
       let i = ops-cut m in
       let x = reading true BodyOpName name in
       let zs = more ++ (close ∷ []) in
       let one = names ++ (x ∷ rest) in
-<<<<<<< HEAD
-      let e : (names ++ (x ∷ (rest ++ more))) ++ (close ∷ []) ≡ names ++ (x ∷ (rest ++ zs)) =
-      append-assoc names (x ∷ (rest ++ more)) (close ∷ []) ∙ ap (λ (l : List Reading). names ++ (x ∷ l)) (append-assoc rest more (close ∷ [])) in
-      let f : names ++ (x ∷ (rest ++ zs)) ≡ one ++ zs = sym (append-assoc names (x ∷ rest) zs) in
-      record {
-        pieces = one ∷ i .pieces;
-        view = next names name rest a (i .view);
-        cut = λ role b.
-            ap (λ (l : List Reading). cutFrom begins 1 role 1 l) e
-            ∙ (cut-op false x refl rest zs (a .leaves) role b names (a .naming)
-            ∙ (ap (λ (c : Cut). record { before = []; pieces = (names ++ (x ∷ (rest ++ c .before))) ∷ c .pieces }) (i .cut (lastOf BodyOpName (rolesOf rest)) (following-apart false x refl rest zs (a .leaves)))
-            ∙ ap (λ (l : List Reading). record { before = []; pieces = (names ++ (x ∷ l)) ∷ i .pieces }) (append-nil rest)));
-        gathers = λ roles c.
-            ap (withRole roles 1 1) (e ∙ f) ∙ (role-inside bodySet tt roles 0 one zs (op-inside false names name rest (a .naming) (a .leaves)) ∙ ap (λ (l : List ℕ). withRole roles 0 0 one ++ l) (i .gathers roles c));
-=======
       let o = body-op names name rest a in
       let e : (names ++ (x ∷ (rest ++ more))) ++ (close ∷ []) ≡ one ++ zs =
       ap (λ (l : List Reading). l ++ (close ∷ [])) (sym (append-assoc names (x ∷ rest) more)) ∙ append-assoc one more (close ∷ []) in
@@ -202,7 +102,6 @@ module _ (text : List ℕ) (close : Reading) (shut : close .role ≡ BodyClose) 
             ∙ (c .0 ∙ (ap (opened one) (i .cut (lastRole role (rolesOf one)) (c .1)) ∙ ap (λ (l : List Reading). record { before = []; pieces = l ∷ i .pieces }) (append-nil one)));
         gathers = λ roles c.
             ap (withRole roles 1 1) e ∙ (role-inside bodySet tt roles one zs (op-inside false one o) ∙ ap (λ (l : List ℕ). withRole roles 0 0 one ++ l) (i .gathers roles c));
->>>>>>> 99baa3ee091801c55282f588fc732bb3220a1104
       }
 
 -- ---- the whole body
@@ -243,17 +142,6 @@ module _ {text : List ℕ} {at : ℕ} (o : BodyOutline text at) where
   shaped = by-lists (o .header) (o .closing) (o .whole) (o .head) (o .close)
 
 module _ {text : List ℕ} {ys : List Reading} (s : BodyShape text ys) where
-<<<<<<< HEAD
-  head-inside : T (outside bodySet 0 (rolesOf (s .head)))
-  unfolding depthAfter
-  head-inside = yields-outside bodySet keeps-body (s .leaves) 0 tt
-
-  head-outside : T (outside headSet 0 (rolesOf (s .head)))
-  unfolding depthAfter
-  head-outside = yields-outside headSet keeps-head (s .leaves) 0 tt
-
-=======
->>>>>>> 99baa3ee091801c55282f588fc732bb3220a1104
   step-in : depthAfter 0 (s .brace .role) ≡ 1
   unfolding depthAfter
   step-in = rw (s .opened)
@@ -264,11 +152,7 @@ module _ {text : List ℕ} {ys : List Reading} (s : BodyShape text ys) where
       let b = s .brace in
       let c = s .close in
       let inside = s .head ++ s .ops in
-<<<<<<< HEAD
-      let t = outside-both bodySet 0 (s .head) (s .ops) head-inside (ops-inside (s .each)) in
-=======
       let t = outside-both bodySet 0 (s .head) (s .ops) (head-inside (s .head) (s .leaves)) (ops-inside (s .each)) in
->>>>>>> 99baa3ee091801c55282f588fc732bb3220a1104
       let e : ys ≡ b ∷ (inside ++ (c ∷ [])) = s .whole ∙ ap (λ (l : List Reading). b ∷ l) (sym (append-assoc (s .head) (s .ops) (c ∷ []))) in
       let f : ys ++ others ≡ b ∷ (inside ++ (c ∷ others)) = ap (λ (l : List Reading). l ++ others) e ∙ ap (λ (l : List Reading). b ∷ l) (append-assoc inside (c ∷ []) others) in
       ap (enclosed 0) f
@@ -285,22 +169,6 @@ module _ {text : List ℕ} {ys : List Reading} (s : BodyShape text ys) where
   pub body-cut : cutFrom begins 1 0 0 ys .pieces ≡ body-ops .pieces
   body-cut =
       let b = s .brace in
-<<<<<<< HEAD
-      let a = head-last (b .role) (rolesOf (s .head)) (s .leaves) in
-      ap (λ (l : List Reading). cutFrom begins 1 0 0 l .pieces) (s .whole)
-      ∙ (ap (λ (n : ℕ). cutFrom begins 1 (b .role) n (s .head ++ tail) .pieces) step-in
-      ∙ (ap (λ (c : Cut). c .pieces) (cut-past headSet tt tt (b .role) 0 (s .head) tail head-outside)
-      ∙ ap (λ (c : Cut). c .pieces) (body-ops .cut (lastOf (b .role) (rolesOf (s .head))) a)))
-
-  -- the tokens of roles that do not stand in its header
-  pub body-gathers : (roles : List ℕ) → oneOf roles BodyClose ≡ false → T (allPass (λ r. not (oneOf roles r)) headSet) → withRole roles 1 0 ys ≡ gathered roles (body-ops .pieces)
-  body-gathers roles c t =
-      let b = s .brace in
-      ap (withRole roles 1 0) (s .whole)
-      ∙ (ap (λ (n : ℕ). withRole roles 1 n (s .head ++ tail)) step-in
-      ∙ (role-inside bodySet tt roles 0 (s .head) tail head-inside
-      ∙ (ap (λ (l : List ℕ). l ++ withRole roles 1 1 tail) (role-none headSet roles t 0 (s .head) head-outside) ∙ body-ops .gathers roles c)))
-=======
       ap (λ (l : List Reading). cutFrom begins 1 0 0 l .pieces) (s .whole)
       ∙ (ap (λ (n : ℕ). cutFrom begins 1 (b .role) n (s .head ++ tail) .pieces) step-in
       ∙ (ap (λ (c : Cut). c .pieces) (cut-head (s .head) (s .leaves) (b .role) tail)
@@ -313,4 +181,3 @@ module _ {text : List ℕ} {ys : List Reading} (s : BodyShape text ys) where
       ∙ (ap (λ (n : ℕ). withRole roles 1 n (s .head ++ tail)) step-in
       ∙ (role-inside bodySet tt roles (s .head) tail (head-inside (s .head) (s .leaves))
       ∙ (ap (λ (l : List ℕ). l ++ withRole roles 1 1 tail) (role-none roles argumentSet 0 (s .head) t (head-outside (s .head) (s .leaves))) ∙ body-ops .gathers roles c)))
->>>>>>> 99baa3ee091801c55282f588fc732bb3220a1104

@@ -1,10 +1,6 @@
 -- The one body of an op of a text that reading passes: as the code reads it from its brace on, it is the body by its lists of tokens.
 -- Assumes nothing.
-<<<<<<< HEAD
-use mathlib.Core.Path.{_≡_, refl, sym, ap, subst, _∙_}
-=======
 use mathlib.Core.Path.{_≡_, sym, ap, subst, _∙_}
->>>>>>> 99baa3ee091801c55282f588fc732bb3220a1104
 use mathlib.Core.List.{List, [], _∷_, _++_, map, append-nil}
 use mathlib.Core.Bool.{true, false}
 use Prim.Native.Nat.{ℕ, _+_, _<_}
@@ -20,15 +16,6 @@ use Rattle.program.specs.Parts.{noParts, partsFrom, opAt, bodyAt}
 use Rattle.program.specs.Program.{programOf}
 use Rattle.places.specs.Places.{opName, bodyOpen, inputName, inputType, placeOf, typeIn, typeOfPart}
 use Rattle.scope.specs.Scope.{begins}
-<<<<<<< HEAD
-use Rattle.bodies.specs.Bodies.{rowNamed, bodyFits, argumentType, bodyRow}
-use Rattle.source.specs.Source.{withRole, cutFrom, opFrom, bodyFrom}
-use Rattle.source_laws.specs.Listed.{partRoles, PartListed, firstPlace}
-use Rattle.verifier.specs.AttributeRules.{firstToken}
-use Rattle.verifier.specs.BodyForm.{opNumber, formedOps}
-use Rattle.body_form_laws.specs.SameBody.{OpStands, SameBody}
-use Rattle.body_form_laws.proofs.PiecesLaw.{BodyPieces, last, next, gathered, shaped, body-ops, body-cut}
-=======
 use Rattle.bodies.specs.Bodies.{rowNamed, argumentType, bodyRow}
 use Rattle.source.specs.Source.{withRole, cutFrom, OpText, opFrom, bodyFrom, functionOf}
 use Rattle.source_laws.specs.Listed.{partRoles, PartListed, firstPlace}
@@ -38,7 +25,6 @@ use Rattle.verifier.specs.AttributeRules.{firstToken}
 use Rattle.verifier.specs.BodyForm.{opNumber, formedOps}
 use Rattle.body_form_laws.specs.SameBody.{OpStands, SameBody}
 use Rattle.body_form_laws.proofs.PiecesLaw.{body-op, BodyPieces, last, next, gathered, shaped, body-ops, body-cut}
->>>>>>> 99baa3ee091801c55282f588fc732bb3220a1104
 use Rattle.body_form_laws.proofs.OneBodyLaw.{BodyRead, op-stands, parts-there, one-body, place}
 use Rattle.body_form_laws.proofs.ArgumentsLaw.{arguments-listed, argument-types-listed}
 use Rattle.body_form_laws.proofs.OpPieceLaw.{one-name}
@@ -50,11 +36,7 @@ first-name : {text : List ℕ} {close : Reading} {ps : List (List Reading)} → 
 first-name {close = close} (last {xs} o) = ap (λ (l : List ℕ). getD l 0 0) (append-nil (withRole (partRoles opName) 0 0 (xs ++ (close ∷ []))))
 first-name (next names name rest {ps} a v) =
     let p = names ++ (reading true BodyOpName name ∷ rest) in
-<<<<<<< HEAD
-    let e = ap length (one-name false names name rest (a .naming) (a .leaves)) in
-=======
     let e = ap length (one-name false p (body-op names name rest a)) in
->>>>>>> 99baa3ee091801c55282f588fc732bb3220a1104
     get-left (withRole (partRoles opName) 0 0 p) (gathered (partRoles opName) ps) 0 (omega arith)
 
 module _ (text : List ℕ) (e : textRefusal text .number ≡ 0) where
@@ -109,16 +91,9 @@ module _ (text : List ℕ) (e : textRefusal text .number ≡ 0) where
       let piece = getD (opFrom (readingsOf Op text at) .bodies) 0 [] in
       subst (λ (n : ℕ). SameBody text n piece) (sym (place text e at s one)) (read-same piece (one-body text e at s one))
 
-<<<<<<< HEAD
-  -- op k of the text, the return left out
-  pub op-body : (k : ℕ) → k + 1 < programOf text .count → length (opFrom (readingsOf Op text (getD (programOf text .ops) k 0)) .bodies) ≡ 1 →
-      SameBody text (placeOf (opAt text (getD (programOf text .ops) k 0)) bodyOpen 0) (getD (opFrom (readingsOf Op text (getD (programOf text .ops) k 0)) .bodies) 0 [])
-  op-body k h one = same-body (getD (programOf text .ops) k 0) (op-stands text e k h) one
-=======
   -- op k of the text's function, the return left out
   pub op-body : (k : ℕ) → k + 1 < programOf text .count → (d : OpText) → length (getD (functionOf text .ops) k d .bodies) ≡ 1 →
       SameBody text (placeOf (opAt text (opPlace text k)) bodyOpen 0) (getD (getD (functionOf text .ops) k d .bodies) 0 [])
   op-body k h d =
       subst (λ (o : OpText). length (o .bodies) ≡ 1 → SameBody text (placeOf (opAt text (opPlace text k)) bodyOpen 0) (getD (o .bodies) 0 [])) (sym (op-read text e k h d))
       (λ one. same-body (opPlace text k) (op-stands text e k h) one)
->>>>>>> 99baa3ee091801c55282f588fc732bb3220a1104

@@ -1,18 +1,10 @@
 -- Tests joined by "and", and lists of a few items.
 -- Assumes nothing.
-<<<<<<< HEAD
-use mathlib.Core.Path.{_≡_, refl, sym, ap, subst, _∙_}
-=======
 use mathlib.Core.Path.{_≡_, refl, sym, subst}
->>>>>>> 99baa3ee091801c55282f588fc732bb3220a1104
 use mathlib.Core.List.{List, [], _∷_, _++_}
 use mathlib.Core.Bool.{Bool, true, false, _&&_, false≢true}
 use Prim.Native.Nat.{ℕ, zero, suc, _+_, _<_, _≤_}
 use native.Mathlib.Omega.{arith}
-<<<<<<< HEAD
-use lib.Dec.{eqb}
-=======
->>>>>>> 99baa3ee091801c55282f588fc732bb3220a1104
 use lib.ListN.{length, getD}
 use borrow.Author.Tests.{eq-eqb}
 use Rattle.dimrules.specs.declared.TensorType.{TensorType}

@@ -1,17 +1,5 @@
 -- A body of two pieces, an op and the return: its form by the counts of its parts is its form by its lists.
 -- Assumes nothing.
-<<<<<<< HEAD
-use mathlib.Core.Path.{_≡_, refl, sym, ap, subst, _∙_}
-use mathlib.Core.List.{List, [], _∷_, _++_, map}
-use mathlib.Core.Bool.{Bool, true, false, _&&_, _||_}
-use Prim.Native.Nat.{ℕ, zero, suc, _+_, _<_, _≤_, min}
-use native.Mathlib.Omega.{arith}
-use native.Mathlib.Decide.{ℕ-discrete}
-use lib.Dec.{eqb}
-use lib.ListN.{length, getD, length-append, length-map}
-use borrow.Author.Tests.{eqb-true, eq-eqb}
-use Rattle.grammar.specs.Symbols.{ResultName, OperandName, OperandType, ResultType, AttributeName, BodyOpen}
-=======
 use mathlib.Core.Path.{_≡_, refl, sym, ap, _∙_}
 use mathlib.Core.List.{List, [], _∷_, _++_}
 use mathlib.Core.Bool.{Bool, true, false, _&&_}
@@ -21,29 +9,18 @@ use lib.Dec.{eqb}
 use lib.ListN.{length, getD, length-append, length-map}
 use borrow.Author.Tests.{eqb-true, eq-eqb}
 use Rattle.grammar.specs.Symbols.{AttributeName, BodyOpen}
->>>>>>> 99baa3ee091801c55282f588fc732bb3220a1104
 use Rattle.text.specs.Lex.{tokenAt}
 use Rattle.optable.specs.Table.{mayReduce, rowAt}
 use Rattle.optable.specs.Find.{findOp}
 use Rattle.syntax.specs.Readings.{Reading}
 use Rattle.program.specs.declared.Parts.{Parts}
 use Rattle.scope.specs.Scope.{sameAt}
-<<<<<<< HEAD
-use Rattle.dimrules.specs.declared.TensorType.{TensorType}
-use Rattle.dimrules.specs.Types.{sameType}
-use Rattle.places.specs.Places.{opName, resultName, operandName, operandType, resultType, attributeName, bodyOpen, inputName, inputType, countOf, placeOf, typeIn, typeOfPart}
-use Rattle.bodies.specs.Bodies.{innerOp, hasCount, bodyCounted, opCounted, rowNamed, isReducer, operandIs, onBoth, returnsIt, asFirst, oneType, formed}
-use Rattle.source.specs.Source.{withRole, cutFrom, attributeFrom, opFrom}
-use Rattle.source_laws.specs.Listed.{partRoles, PartListed, firstPlace}
-use Rattle.source_laws.proofs.CutLaw.{cut-places}
-=======
 use Rattle.dimrules.specs.Types.{sameType}
 use Rattle.places.specs.Places.{opName, resultName, operandName, operandType, resultType, attributeName, bodyOpen, inputName, inputType, countOf, placeOf, typeIn, typeOfPart}
 use Rattle.bodies.specs.Bodies.{hasCount, bodyCounted, opCounted, rowNamed, isReducer, operandIs, onBoth, returnsIt, asFirst, oneType, formed}
 use Rattle.source.specs.Source.{withRole, cutFrom, attributeFrom, opFrom}
 use Rattle.source_laws.specs.Listed.{partRoles, PartListed}
 use Rattle.source_laws.proofs.OpItemsLaw.{piece-count}
->>>>>>> 99baa3ee091801c55282f588fc732bb3220a1104
 use Rattle.verifier.specs.AttributeRules.{firstToken}
 use Rattle.verifier.specs.BodyForm.{hasLength, opNumber, allAre, plainOp, eachOnce, formedOf}
 use Rattle.body_form_laws.proofs.TestLaw.{six, eight, nine, get-left, get-right, one-item, two-items, type-itself}
@@ -64,19 +41,10 @@ pub record Plain (r o : ℕ) (xs : List Reading) : Type 0 where
 
 module _ (xs : List Reading) where
   bodies-length : length (opFrom xs .bodies) ≡ lengthOf bodyOpen xs
-<<<<<<< HEAD
-  bodies-length = sym (length-map (cutFrom (λ before role. eqb role BodyOpen) 0 0 0 xs .pieces) firstPlace) ∙ ap length (cut-places BodyOpen 0 0 0 xs)
-
-  attributes-length : length (opFrom xs .attributes) ≡ lengthOf attributeName xs
-  attributes-length =
-      length-map (cutFrom (λ before role. eqb role AttributeName) 0 0 0 xs .pieces) attributeFrom
-      ∙ (sym (length-map (cutFrom (λ before role. eqb role AttributeName) 0 0 0 xs .pieces) firstPlace) ∙ ap length (cut-places AttributeName 0 0 0 xs))
-=======
   bodies-length = piece-count BodyOpen 0 0 0 xs
 
   attributes-length : length (opFrom xs .attributes) ≡ lengthOf attributeName xs
   attributes-length = length-map (cutFrom (λ before role. eqb role AttributeName) 0 0 0 xs .pieces) attributeFrom ∙ piece-count AttributeName 0 0 0 xs
->>>>>>> 99baa3ee091801c55282f588fc732bb3220a1104
 
   plain-so : (r o : ℕ) → plainOp r o (opFrom xs) ≡ true → Plain r o xs
   plain-so r o e =
