@@ -9,7 +9,7 @@ use native.Mathlib.Numerals.{add-one}
 use lib.ListN.{length, drop, getD}
 use lib.Seq.{drop-cons}
 use Rattle.lists.specs.Lists.{pick}
-use Rattle.rules.specs.Broken.{firstFrom, firstBroken, Holds}
+use Rattle.rule_laws.specs.Broken.{firstFrom, firstBroken, Holds}
 
 pub first-step : (c : List Bool) (k : ℕ) → k < length c → firstFrom (suc k) (drop k c) ≡ pick (getD c k false) (firstFrom (suc (k + 1)) (drop (k + 1) c)) (k + 1)
 first-step c k h = ap (firstFrom (suc k)) (drop-cons c k false h) ∙ rw (add-one k)
