@@ -6,18 +6,17 @@ use mathlib.Core.List.{List, [], _∷_, _++_, map}
 use mathlib.Core.Bool.{Bool, true, false}
 use Prim.Native.Nat.{ℕ, suc, _-_, _^_}
 use native.Mathlib.Omega.{arith}
-use lib.Dec.{ltb, leb}
-use lib.IntN.{ℤ, pos, negsuc}
+use lib.IntN.{ℤ}
+use lib.Signed.{mag}
 use lib.ListN.{length, getD, take, replicate}
-use borrow.Author.Tests.{ltb-true, ltb-false, le-leb, lt-leb}
+use borrow.Author.Tests.{ltb-true}
 use Rattle.lists.specs.Lists.{pick, tab}
 use Rattle.lists.proofs.TabLaw.{tab-getD, map-tab}
 use Rattle.shape.specs.Index.{at}
 use Rattle.text.specs.Lex.{tokenAt}
-use Rattle.element.specs.Types.{slotOf, valueOf}
-use Rattle.element.specs.declared.ElementType.the-variants.{I64}
-use Rattle.types.specs.Numbers.{numberOf, inType}
-use Rattle.types.proofs.NumberLaw.{slot-value}
+use Rattle.shape.specs.Whole.{patternOf}
+use Rattle.shape.proofs.WholeLaw.{number-pattern}
+use Rattle.types.specs.Numbers.{numberOf, isAttributeNumber}
 use Rattle.grammar.specs.Symbols.{COMMA, COLON, among}
 use Rattle.dimrules.specs.Whole as whole
 use Rattle.optable.specs.Table.{Numbers as NumberList, Number}
@@ -38,17 +37,10 @@ use Rattle.attribute_laws.proofs.FormLaw.{form-number, form-list, form-
 
 -- ---- a number of 64 bits
 
-pattern-value : (w : ℕ) → whole.numberOf w ≡ valueOf I64 w
-unfolding valueOf
-pattern-value w = by-test (ltb w (2 ^ 63)) refl
-  where
-    by-test : (b : Bool) → ltb w (2 ^ 63) ≡ b → pick b (pos w) (negsuc (2 ^ 64 - 1 - w)) ≡ pick (leb (2 ^ 63) w) (negsuc (2 ^ 64 - suc w)) (pos w)
-    by-test true e = let h = ltb-true w (2 ^ 63) e in rw (lt-leb (2 ^ 63) w h)
-    by-test false e = let h = ltb-false w (2 ^ 63) e in let z : 2 ^ 64 - 1 - w ≡ 2 ^ 64 - suc w = omega arith in rw (le-leb (2 ^ 63) w h, z)
-
 -- a number within the signed 64-bit range is that of its pattern
-pub pattern-whole : (z : ℤ) → inType I64 z ≡ true → whole.numberOf (slotOf z) ≡ z
-pattern-whole z e = pattern-value (slotOf z) ∙ slot-value I64 z e
+pub pattern-whole : (z : ℤ) → isAttributeNumber z ≡ true → whole.numberOf (patternOf z) ≡ z
+unfolding isAttributeNumber
+pattern-whole z e = number-pattern z (ltb-true (mag z) (2 ^ 63) e)
 
 -- ---- lists
 
