@@ -12,7 +12,7 @@ use lib.Signed.{_≤ℤ_, _<ℤ_}
 use Rattle.element.specs.Types.{signedOf}
 use Rattle.shape.specs.Index.{size}
 use Rattle.shape.specs.Dims.{dimsOf}
-use Rattle.dimrules.specs.Count.{countBelow}
+use Rattle.shape.specs.Place.{countBelow}
 use Rattle.dimrules.specs.Dims.{dim}
 use Rattle.dimrules.specs.Types.{typeAt, sumOfDims}
 use Rattle.dimrules.specs.declared.TensorType.{TensorType}
