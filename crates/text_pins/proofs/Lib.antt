@@ -1,0 +1,4 @@
+pub mod BytePins
+pub mod TokenPins
+pub mod DensePins
+pub mod PrintPins

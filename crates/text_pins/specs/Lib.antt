@@ -1,0 +1,4 @@
+pub mod Bytes
+pub mod Tokens
+pub mod DenseValues
+pub mod Prints

@@ -1,0 +1,4 @@
+pub mod Pin
+pub mod Types
+pub mod Scalars
+pub mod Shapes

@@ -1,0 +1,32 @@
+-- A computed example: what a definition gives, and what 01 or 000 says that it gives.
+-- Assumes nothing.
+use mathlib.Core.Path.{_≡_}
+use mathlib.Core.Bool.{Bool}
+use mathlib.Core.List.{List, [], _∷_, map}
+use Prim.Native.Nat.{ℕ, _-_}
+use Rattle.lists.specs.Lists.{pick}
+
+pub record Pin : Type 0 where
+  pub found : List ℕ
+  pub told : List ℕ
+
+abbrev pub pin : List ℕ → List ℕ → Pin
+pin found told = record { found = found; told = told }
+
+-- of every example: what is found is what is told
+abbrev pub Pinned : List Pin → Type 0
+Pinned pins = map (λ (p : Pin). p .found) pins ≡ map (λ (p : Pin). p .told) pins
+
+-- the slot of -k: "a signed one modulo 2^64"
+abbrev pub minus : ℕ → ℕ
+minus k = 18446744073709551616 - k
+
+-- false and true as 0 and 1
+abbrev pub bits : List Bool → List ℕ
+bits l = map (λ b. pick b 1 0) l
+
+-- f on each pair of numbers that stand at one place of two lists
+abbrev pub pairwise : (ℕ → ℕ → ℕ) → List ℕ → List ℕ → List ℕ
+pairwise f [] ys = []
+pairwise f (x ∷ xs) [] = []
+pairwise f (x ∷ xs) (y ∷ ys) = f x y ∷ pairwise f xs ys
