@@ -1,0 +1,2 @@
+pub mod StartsLaw
+pub mod ClaimLaw
