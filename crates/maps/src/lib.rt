@@ -257,7 +257,7 @@ fn clamp_start(t: ElementType, start: u64, limit: usize) -> usize
     if element::is_negative(t, start) {
         return 0;
     }
-    let v = start as usize;
+    let v = element::magnitude(t, start) as usize;
     if v < limit {
         return v;
     }

@@ -19,7 +19,7 @@ use Rattle.lists.specs.Lists.{firstWhere}
 use Rattle.run.specs.Tree.{Tree, leaf, node, start, element}
 use Rattle.run.specs.Run.{Program, results, stopped, ended, met}
 use Rattle.run.specs.Ways.{evaluation, freeRun}
-use Rattle.element.specs.Types.{valueOf, wrapTo}
+use Rattle.element.specs.Types.{valueOf, wrapTo, slotFor}
 use Rattle.element.specs.declared.ElementType.the-variants.{I32}
 use Rattle.division.specs.Division.{divisionOf}
 use Rattle.division.specs.declared.Division.the-variants.{Divide}
@@ -74,7 +74,7 @@ abbrev doubled : List ℕ
 doubled = 2 ∷ 4 ∷ 6 ∷ 8 ∷ 10 ∷ 12 ∷ []
 
 evaluated : evaluation hlo sums (x ∷ two ∷ []) 0 ≡ results (x ∷ two ∷ (0 ∷ []) ∷ doubled ∷ x ∷ (6 ∷ 15 ∷ []) ∷ [])
-unfolding firstWhere addOf divisionOf wrapTo valueOf
+unfolding firstWhere addOf divisionOf wrapTo slotFor valueOf
 evaluated = refl
 
 -- not the text's order, and a tree that uses the start twice
@@ -86,7 +86,7 @@ trees k i = node (node (leaf start) (leaf (element 0))) (node (leaf (element 1))
 
 ran : freeRun hlo sums (x ∷ two ∷ []) order trees 0
     ≡ ended (some x ∷ some two ∷ some (0 ∷ []) ∷ some doubled ∷ some x ∷ some (6 ∷ 15 ∷ []) ∷ [])
-unfolding firstWhere addOf divisionOf wrapTo valueOf
+unfolding firstWhere addOf divisionOf wrapTo slotFor valueOf
 ran = refl
 
 -- a zero divisor at element 1
@@ -94,11 +94,11 @@ abbrev zeros : List ℕ
 zeros = 2 ∷ 0 ∷ 2 ∷ 0 ∷ 2 ∷ 2 ∷ []
 
 refused : evaluation hlo sums (x ∷ zeros ∷ []) 0 ≡ stopped (x ∷ zeros ∷ (0 ∷ []) ∷ doubled ∷ []) 2 1
-unfolding firstWhere addOf divisionOf wrapTo valueOf
+unfolding firstWhere addOf divisionOf wrapTo slotFor valueOf
 refused = refl
 
 met-too : freeRun hlo sums (x ∷ zeros ∷ []) order trees 0 ≡ met (some x ∷ some zeros ∷ none ∷ some doubled ∷ none ∷ none ∷ []) 2 1
-unfolding firstWhere addOf divisionOf wrapTo valueOf
+unfolding firstWhere addOf divisionOf wrapTo slotFor valueOf
 met-too = refl
 
 -- The premises can be met -----------------------------------------------------------------------------------------------------
