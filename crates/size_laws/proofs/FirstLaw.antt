@@ -6,7 +6,6 @@ use mathlib.Core.List.{List, [], _∷_}
 use Prim.Native.Nat.{ℕ, zero, suc, _+_, _<_}
 use native.Mathlib.Omega.{arith}
 use lib.ListN.{getD}
-use Rattle.lists.specs.Lists.{pick}
 use Rattle.judge.specs.Sizes.{firstPassed}
 
 pub wrong : {A : Type 0} → false ≡ true → A

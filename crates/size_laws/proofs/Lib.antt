@@ -4,6 +4,7 @@ pub mod CountedLaw
 pub mod WindowTable
 pub mod WindowLaw
 pub mod ItemsLaw
+pub mod RunLaw
 pub mod FirstLaw
 pub mod TestsLaw
 pub mod Theorems

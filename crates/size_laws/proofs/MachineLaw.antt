@@ -1,6 +1,6 @@
 -- What the grammar keeps from token to token holds at each token of a text up to the first that does not fit.
 -- Assumes nothing.
-use mathlib.Core.Path.{_≡_, refl, sym, subst}
+use mathlib.Core.Path.{_≡_, refl, subst}
 use mathlib.Core.Bool.{Bool, true, false}
 use mathlib.Core.List.{List, [], _∷_, _++_}
 use Prim.Native.Nat.{ℕ, zero, suc, _+_, _<_}
@@ -11,7 +11,7 @@ use Rattle.text.specs.declared.Token.{Token}
 use Rattle.grammar.specs.Symbols.{Program, leafCount}
 use Rattle.grammar.specs.Grammar.{Production, _⟶_, grammar}
 use Rattle.grammar.specs.Derivation.{_∈_}
-use Rattle.grammar.specs.Machine.{Cell, fails, skips, takes, cell, onCell, step}
+use Rattle.grammar.specs.Machine.{Cell, fails, skips, takes, onCell, step}
 use Rattle.grammar.proofs.CellView.{View, none, empty, leaf, rule, view}
 use Rattle.grammar.proofs.Exact.{leaf-bounds}
 use Rattle.syntax.specs.Kinds.{kindOf}

@@ -1,6 +1,6 @@
 -- The bodies that are open at a token, as the tally counts them: those opened before and not closed.
 -- Assumes nothing.
-use mathlib.Core.Path.{_≡_, refl, sym, ap, subst, _∙_}
+use mathlib.Core.Path.{_≡_, refl, sym, subst}
 use mathlib.Core.Bool.{Bool, true, false}
 use mathlib.Core.List.{List, [], _∷_, _++_}
 use Prim.Native.Nat.{ℕ, _+_, _-_, _<_}
@@ -9,10 +9,10 @@ use native.Mathlib.Omega.{arith}
 use lib.Dec.{T, eqb, eqb→eq, ltb, ltb→lt, lt→ltb}
 use borrow.Author.Tests.{eqb-true}
 use Rattle.lists.specs.Lists.{pick}
-use Rattle.grammar.specs.Symbols.{Program, BodyOpen, BodyClose, leafCount}
+use Rattle.grammar.specs.Symbols.{BodyOpen, BodyClose, leafCount}
 use Rattle.grammar.specs.Grammar.{Production, grammar}
 use Rattle.grammar.specs.Derivation.{_∈_}
-use Rattle.grammar.proofs.TableTest.{both, both-left, both-right, both-make, implies, implied, true-T}
+use Rattle.grammar.proofs.TableTest.{both, both-left, both-right, both-make, implies}
 use Rattle.grammar.proofs.CellView.{rule-passes}
 use Rattle.grammar.proofs.Exact.{left-high}
 use Rattle.syntax.specs.Readings.{Reading, readings}

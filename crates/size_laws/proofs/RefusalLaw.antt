@@ -3,7 +3,8 @@
 use mathlib.Core.Path.{_≡_, refl, sym, ap, subst, _∙_}
 use mathlib.Core.Bool.{Bool, true, false, not}
 use mathlib.Core.List.{List, [], _∷_, _++_, append-assoc}
-use Prim.Native.Nat.{ℕ, _+_, _<_}
+use Prim.Native.Nat.{ℕ, _<_, _≤_}
+use native.Mathlib.Decide.{decLt}
 use native.Mathlib.Omega.{arith}
 use lib.Dec.{eqb, ltb}
 use lib.ListN.{length}
@@ -17,7 +18,9 @@ use Rattle.judge.specs.Sizes.{sizePassed}
 use Rattle.judge.specs.Judge.{refuse, accepted, unknown, refusalAt, earliest, textRefusal}
 use Rattle.judge.proofs.Theorems.{Each, token-sound, accepted-each}
 use Rattle.reading_laws.proofs.TallyLaw.{tallyAfter, each-append}
-use Rattle.size_laws.specs.SizeSentences.{latestFirst, LowestPassed, NonePassed, RefusedBySize}
+use Rattle.size_laws.specs.SizeSentences.{latestFirst, countedType, elementsThrough, PassedAt, rank, dimensions, elements, ops, items, numbers, range, characters, LowestPassed, NonePassed, RefusedBySize}
+use Rattle.size_laws.proofs.CountedLaw.{passing-type}
+use Rattle.size_laws.proofs.RunLaw.{turned-twice, onto-append}
 use Rattle.size_laws.proofs.Theorems.{size-number}
 
 -- the first reading that is refused
@@ -115,3 +118,30 @@ module _ (text : List ℕ) where
       let a : Each text atStart (before ++ (x ∷ after)) = subst (λ (l : List Reading). Each text atStart l) w (accepted-each text e) in
       let g = token-sound text (tallyAfter text atStart before) x (each-append text before (x ∷ after) atStart a .1 .0) in
       size-number text before x after w (g .fits) .none (g .sized)
+
+  -- size 3 is refused at the type of an input, or of a result outside every body
+  few-before : (earlier before : List Reading) → before ≡ latestFirst earlier →
+      ((front : List Reading) (y : Reading) (back : List Reading) → before ≡ front ++ (y ∷ back) → NonePassed text (latestFirst front) y) → elementsThrough text earlier ≤ 8192
+  few-before [] before e n = omega arith
+  few-before (y ∷ rest) before e n =
+      let none : NonePassed text rest y =
+      subst (λ (l : List Reading). NonePassed text l y) (turned-twice rest) (n (latestFirst rest) y [] (e ∙ onto-append (y ∷ []) rest)) in
+      go (decLt 8192 (elementsThrough text (y ∷ rest))) none
+    where
+      go : Dec (8192 < elementsThrough text (y ∷ rest)) → NonePassed text rest y → elementsThrough text (y ∷ rest) ≤ 8192
+      go (yes h) none = absurd (none 3 (elements h))
+      go (no h) none = omega arith
+
+  through : {earlier : List Reading} {x : Reading} {n : ℕ} → n ≡ 3 → PassedAt text earlier x n → 8192 < elementsThrough text (x ∷ earlier)
+  through e (rank t h) = absurd (omega arith)
+  through e (dimensions t h) = absurd (omega arith)
+  through e (elements h) = h
+  through e (ops r h) = absurd (omega arith)
+  through e (items r h) = absurd (omega arith)
+  through e (numbers r h) = absurd (omega arith)
+  through e (range r h) = absurd (omega arith)
+  through e (characters r h) = absurd (omega arith)
+
+  pub refused-at-type : (a : ℕ) (r : RefusedBySize text a 3) → countedType (latestFirst (r .before)) (r .x) ≡ true
+  refused-at-type a r =
+      passing-type text (latestFirst (r .before)) (r .x) (few-before (latestFirst (r .before)) (r .before) (sym (turned-twice (r .before))) (r .none)) (through refl (r .size .passed)) .0

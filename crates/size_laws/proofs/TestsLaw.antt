@@ -3,13 +3,13 @@
 use mathlib.Core.Path.{_≡_, refl, sym, ap, subst, _∙_}
 use mathlib.Core.Bool.{Bool, true, false, not, _&&_}
 use mathlib.Core.List.{List, [], _∷_}
-use Prim.Native.Nat.{ℕ, zero, suc, _+_, _-_, _^_, _<_, _≤_}
+use Prim.Native.Nat.{ℕ, zero, suc, _+_, _-_, _≤_}
 use native.Mathlib.Omega.{arith}
-use lib.Dec.{T, eqb, ltb, leb}
-use lib.IntN.{ℤ, pos, negsuc, negℤ}
+use lib.Dec.{eqb, ltb, leb}
+use lib.IntN.{ℤ, pos, negsuc}
 use lib.ListN.{length, getD, drop}
-use lib.Signed.{leZ, _≤ℤ_, leZ-yes}
-use borrow.Author.Tests.{eqb-true, eq-eqb, ltb-true, lt-ltb, leb-true, le-leb, not-true}
+use lib.Signed.{leZ-yes}
+use borrow.Author.Tests.{eqb-true, eq-eqb, ltb-true, lt-ltb, leb-true, le-leb}
 use Rattle.lists.specs.Lists.{pick, All}
 use Rattle.scan.specs.Ascii.{ascii}
 use Rattle.scan.specs.Bytes.{startsWith}
@@ -31,7 +31,7 @@ use Rattle.judge.specs.declared.tally.Tally.{Tally}
 use Rattle.judge.specs.Roles.{among, typeRoles, numberRoles, listedRoles, itemRoles}
 use Rattle.judge.specs.Tally.{itemNumber, elementsAt}
 use Rattle.judge.specs.Sizes.{typePassed, manyElements, manyOps, manyItems, longList, largeNumber, longName, passes, firstPassed, sizePassed}
-use Rattle.size_laws.specs.SizeSentences.{ofRole, KnownType, writtenDims, LimitedDims, elementsThrough, itemsBefore, InSigned64, PassedAt, rank, dimensions, elements, ops, items, numbers, range, characters}
+use Rattle.size_laws.specs.SizeSentences.{KnownType, writtenDims, LimitedDims, elementsThrough, itemsBefore, InSigned64, PassedAt, rank, dimensions, elements, ops, items, numbers, range, characters}
 use Rattle.size_laws.proofs.OpenLaw.{OpenedEach}
 use Rattle.size_laws.proofs.CountedLaw.{tallyOf, tally-ops, elements-with, tally-elements}
 use Rattle.size_laws.proofs.WindowLaw.{WindowedEach}

@@ -1,28 +1,21 @@
--- 01, "Sizes", as laws of the judge: the size that a token passes is the first of the eight sentences that hold at it, and refusal 4 stands at the first token
--- that passes one.
+-- 01, "Sizes", as laws of the judge: the size that a token passes is the first of the eight sentences that hold at it.
 -- Assumes nothing.
 use mathlib.Core.Path.{_≡_, refl, sym, ap, subst, _∙_}
-use mathlib.Core.Bool.{Bool, true, false, not}
-use mathlib.Core.List.{List, [], _∷_, _++_, append-assoc}
-use Prim.Native.Nat.{ℕ, zero, suc, _+_, _-_, _<_}
+use mathlib.Core.Bool.{Bool, true, false}
+use mathlib.Core.List.{List, _∷_, _++_}
+use Prim.Native.Nat.{ℕ, zero, suc, _-_, _<_}
 use native.Mathlib.Omega.{arith}
-use lib.Dec.{eqb, ltb}
-use lib.ListN.{length, getD}
-use borrow.Author.Tests.{eqb-true, eqb-false}
-use Rattle.lists.specs.Lists.{pick}
+use lib.ListN.{getD}
 use Rattle.syntax.specs.Readings.{Reading, readings}
-use Rattle.judge.specs.declared.Refusal.{Refusal}
 use Rattle.judge.specs.declared.tally.Tally.{Tally}
-use Rattle.judge.specs.Tally.{atStart, afterToken}
-use Rattle.judge.specs.Sizes.{firstPassed, sizePassed}
-use Rattle.judge.specs.Judge.{refuse, accepted, unknown, refusalAt, earliest, textRefusal}
-use Rattle.judge.proofs.Theorems.{Each, token-sound}
-use Rattle.reading_laws.proofs.TallyLaw.{tallyAfter, each-append}
-use Rattle.size_laws.specs.SizeSentences.{latestFirst, PassedAt, rank, dimensions, elements, ops, items, numbers, range, characters, LowestPassed, NonePassed, SizeNumber, RefusedBySize}
+use Rattle.judge.specs.Tally.{atStart}
+use Rattle.judge.specs.Sizes.{manyElements, manyOps, manyItems, longList, largeNumber, longName, firstPassed, sizePassed}
+use Rattle.reading_laws.proofs.TallyLaw.{tallyAfter}
+use Rattle.size_laws.specs.SizeSentences.{latestFirst, PassedAt, rank, dimensions, elements, ops, items, numbers, range, characters, LowestPassed, NonePassed, SizeNumber, Exactly}
 use Rattle.size_laws.proofs.OpenLaw.{OpenedEach, opened-each}
-use Rattle.size_laws.proofs.CountedLaw.{tallyOf, tally-turned}
+use Rattle.size_laws.proofs.CountedLaw.{tally-turned}
 use Rattle.size_laws.proofs.WindowLaw.{WindowedEach, windowed-each}
-use Rattle.size_laws.proofs.FirstLaw.{FirstAt, first-found, Found, found, first-none}
+use Rattle.size_laws.proofs.FirstLaw.{FirstAt, first-found, found, first-none}
 use Rattle.size_laws.proofs.TestsLaw.{tests, size-tests, test-says, test-holds}
 
 -- sizes are numbered from 1
@@ -86,3 +79,39 @@ size-number text before x after e f =
     let q : sizePassed text (tallyAfter text atStart before) (x .role) (x .token) ≡ firstPassed 1 (tests text (latestFirst before) x) =
     ap (λ (s : Tally). sizePassed text s (x .role) (x .token)) (tally-turned text before) ∙ size-tests text (latestFirst before) x in
     subst (λ (n : ℕ). SizeNumber text (latestFirst before) x n) (sym q) (by-tests text (latestFirst before) x o w)
+
+-- sizes 3 to 8, each by itself: the judge's test of a token holds exactly where the sentence does
+module _ (text : List ℕ) (before : List Reading) (x : Reading) (after : List Reading) (e : readings text ≡ before ++ (x ∷ after)) (f : x .fits ≡ true) where
+  abbrev At : ℕ → Type 0
+  At n = PassedAt text (latestFirst before) x n
+
+  abbrev state : Tally
+  state = tallyAfter text atStart before
+
+  exactly : (k : ℕ) → Exactly (getD (tests text (latestFirst before) x) k false) (At (suc k))
+  exactly k =
+      let o = opened-each text before x after e f .1 in
+      let w = windowed-each text before x after e f in
+      let q : suc k - 1 ≡ k = omega arith in
+      record {
+        says = test-says text (latestFirst before) x o w k;
+        holds = λ p. subst (λ (j : ℕ). getD (tests text (latestFirst before) x) j false ≡ true) q (test-holds text (latestFirst before) x o w p);
+      }
+
+  pub elements-exactly : Exactly (manyElements text state (x .role) (x .token)) (At 3)
+  elements-exactly = subst (λ (s : Tally). Exactly (manyElements text s (x .role) (x .token)) (At 3)) (sym (tally-turned text before)) (exactly 2)
+
+  pub ops-exactly : Exactly (manyOps state (x .role)) (At 4)
+  ops-exactly = subst (λ (s : Tally). Exactly (manyOps s (x .role)) (At 4)) (sym (tally-turned text before)) (exactly 3)
+
+  pub items-exactly : Exactly (manyItems state (x .role)) (At 5)
+  items-exactly = subst (λ (s : Tally). Exactly (manyItems s (x .role)) (At 5)) (sym (tally-turned text before)) (exactly 4)
+
+  pub numbers-exactly : Exactly (longList state (x .role)) (At 6)
+  numbers-exactly = subst (λ (s : Tally). Exactly (longList s (x .role)) (At 6)) (sym (tally-turned text before)) (exactly 5)
+
+  pub range-exactly : Exactly (largeNumber text (x .role) (x .token)) (At 7)
+  range-exactly = exactly 6
+
+  pub characters-exactly : Exactly (longName (x .token)) (At 8)
+  characters-exactly = exactly 7

@@ -4,11 +4,11 @@
 use mathlib.Core.Path.{_≡_, refl, sym, subst}
 use mathlib.Core.Bool.{Bool, true, false, not}
 use mathlib.Core.List.{List, [], _∷_, _++_}
-use Prim.Native.Nat.{ℕ, _-_, _<_, _≤_}
+use Prim.Native.Nat.{ℕ, _-_, _<_}
 use native.Mathlib.Omega.{arith}
 use lib.Dec.{T, eqb, eqb→eq, ltb}
 use lib.ListN.{getD}
-use borrow.Author.Tests.{eqb-true, eq-eqb, lt-ltb, le-ltb}
+use borrow.Author.Tests.{eq-eqb, lt-ltb, le-ltb}
 use Rattle.lists.specs.Lists.{pick}
 use Rattle.grammar.specs.Symbols.{InputName, InputType, ArgumentName, ArgumentType, comma, colon, Program, leafCount}
 use Rattle.grammar.specs.Grammar.{Production, grammar}
@@ -99,9 +99,6 @@ unfolding ruleTest grammar among samePair befores afters
 rule-walks m = rule-passes ruleTest m tt
 
 -- ---- from token to token
-
-abbrev Two : Type 0
-Two = ℕ × ℕ
 
 abbrev pub twoAfter : ℕ × ℕ → ℕ → ℕ × ℕ
 twoAfter q r = (q .1, r)

@@ -1,9 +1,9 @@
 -- 01, "Sizes": what each of the eight says at a token, by the tokens before it. No state. Where a definition takes `earlier`, these are the readings before a
 -- token, the latest first.
 -- Assumes nothing.
-use Prim.Native.Nat.{ℕ, _+_, _-_, _^_, _<_, _≤_}
+use Prim.Native.Nat.{ℕ, zero, suc, _+_, _-_, _^_, _<_, _≤_}
 use mathlib.Core.Path.{_≡_}
-use mathlib.Core.Bool.{Bool, true, _&&_, _||_}
+use mathlib.Core.Bool.{Bool, true, false, _&&_, _||_}
 use mathlib.Core.List.{List, [], _∷_, _++_}
 use lib.Dec.{eqb}
 use lib.IntN.{ℤ, pos, negℤ}
@@ -18,6 +18,7 @@ use Rattle.types.specs.Tensors.{stretch, dimensionsFrom, typeOf}
 use Rattle.types.specs.Numbers.{numberOf}
 use Rattle.grammar.specs.Symbols.{InputName, InputType, OpName, ResultType, BodyOpen, BodyClose, ArgumentName, ArgumentType, ListNumber, comma, colon}
 use Rattle.syntax.specs.Readings.{Reading, readings}
+use Rattle.syntax.specs.Roles.{rolesOf}
 use Rattle.judge.specs.Roles.{among, typeRoles, numberRoles, listedRoles}
 
 -- the readings in front of those given, the latest first
@@ -66,14 +67,31 @@ abbrev pub elementsThrough : List ℕ → List Reading → ℕ
 elementsThrough text [] = 0
 elementsThrough text (x ∷ earlier) = elementsThrough text earlier + pick (countedType earlier x) (typeElements text x) 0
 
--- what a list of items of the role is made of: commas, the items, and behind the name of an input or argument its `: type`
+-- what stands behind the name of an input or argument inside its list: `: type`
+abbrev pub itemTail : ℕ → List ℕ
+itemTail role = pick (eqb role InputName) (colon ∷ InputType ∷ []) (pick (eqb role ArgumentName) (colon ∷ ArgumentType ∷ []) [])
+
+-- what a list of items of the role is made of: commas, the items, and what stands behind them
 abbrev pub listRoles : ℕ → List ℕ
-listRoles role = comma ∷ role ∷ pick (eqb role InputName) (colon ∷ InputType ∷ []) (pick (eqb role ArgumentName) (colon ∷ ArgumentType ∷ []) [])
+listRoles role = comma ∷ role ∷ itemTail role
 
 -- the items of the role in the list that the readings end in: those since the last token that is no part of such a list
 abbrev pub itemsBefore : ℕ → List Reading → ℕ
 itemsBefore role [] = 0
 itemsBefore role (x ∷ earlier) = pick (among (listRoles role) (x .role)) (itemsBefore role earlier + pick (eqb (x .role) role) 1 0) 0
+
+-- the roles of n items of a list, each with a comma behind it: "split by commas"
+abbrev pub itemsRun : ℕ → ℕ → List ℕ
+itemsRun role zero = []
+itemsRun role (suc n) = itemsRun role n ++ (role ∷ (itemTail role ++ (comma ∷ [])))
+
+-- the readings, in text order, end in n items of a list that goes on, and before them in no token of such a list
+pub record ListSoFar (role n : ℕ) (before : List Reading) : Type 0 where
+  pub front : List Reading
+  pub run : List Reading
+  pub whole : before ≡ front ++ run
+  pub items : rolesOf run ≡ itemsRun role n
+  pub starts : (others : List Reading) (y : Reading) → front ≡ others ++ (y ∷ []) → among (listRoles role) (y .role) ≡ false
 
 -- 7: "the signed 64-bit range"
 abbrev pub InSigned64 : ℤ → Type 0
@@ -83,9 +101,9 @@ InSigned64 z = (negℤ (pos (2 ^ 63)) ≤ℤ z) × (z ≤ℤ pos (2 ^ 63 - 1))
 pub data PassedAt (text : List ℕ) (earlier : List Reading) (x : Reading) : ℕ → Type 0 where
   -- 1: "Rank at most 6."
   rank : KnownType text x → 6 < length (writtenDims text x) → PassedAt text earlier x 1
-  -- 2
+  -- 2: not within the limits of LimitedDims
   dimensions : KnownType text x → (LimitedDims (writtenDims text x) → ⊥) → PassedAt text earlier x 2
-  -- 3: "Inputs and op results together at most 8,192 elements, body values not counted."
+  -- 3: "Inputs and op results together at most 8,192 elements, body values not counted.", up to and with x
   elements : 8192 < elementsThrough text (x ∷ earlier) → PassedAt text earlier x 3
   -- 4: "One function has at most 256 ops, its return and body ops not counted.": the 257th
   ops : x .role ≡ OpName → 256 ≤ ofRole OpName earlier → PassedAt text earlier x 4
@@ -97,6 +115,11 @@ pub data PassedAt (text : List ℕ) (earlier : List Reading) (x : Reading) : ℕ
   range : among numberRoles (x .role) ≡ true → (InSigned64 (numberOf text (x .token .start)) → ⊥) → PassedAt text earlier x 7
   -- 8: "A sigil and its name have at most 32 characters."
   characters : x .token .kind ≡ 3 → 32 < x .token .end - x .token .start → PassedAt text earlier x 8
+
+-- a test holds exactly where a sentence does
+pub record Exactly (test : Bool) (Sentence : Type 0) : Type 0 where
+  pub says : test ≡ true → Sentence
+  pub holds : Sentence → test ≡ true
 
 -- "Two at one token: the lower number."
 pub record LowestPassed (text : List ℕ) (earlier : List Reading) (x : Reading) (n : ℕ) : Type 0 where
