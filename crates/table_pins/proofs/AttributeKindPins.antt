@@ -21,4 +21,4 @@ use Rattle.table_pins.specs.AttributeKinds.{AttributeKindPinsHold}
 
 pub attribute-kind-pins : AttributeKindPinsHold
 unfolding firstWhere isLetter isDigit isSpace isSigil isSign inRun runFrom runEnd startsWith inComment skipFrom skipEnd byteEnd wordEnd digitsEnd sizeNext shapeFrom shapeEnd complexEnd signEnd integerEnd fractionEnd scientificEnd floatEnd colonEnd parameterEnd moreEnd parametersEnd storageEnd quantizedEnd elementEnd typeClose markToken nameEnd nameToken signToken quoteToken plainWord tensorToken wordToken lexeme tokenAt wordIs digitsFrom magnitudeOf numberOf inType numberIn widthNamed elementNamed dimensionsFrom countOf allFit sizePassed typed foreign typeAfter typeOf typeIn same placeIn attributes attributeNames attributeKind choiceKinds choiceKindNames choiceForm choices choiceNames choiceKind saidAt findAttribute findChoiceKind findChoice tokenAfter wordForm choiceAt formAt endsLiteral closeFrom denseAt booleanOf literalOf andThen markAt before oneAt itemsAt denseListAt sameAt denseValue choiceFits denseFits kindFits
-attribute-kind-pins = refl
+attribute-kind-pins = record { attributes = refl; choices = refl; words = refl }

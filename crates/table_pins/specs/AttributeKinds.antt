@@ -7,8 +7,8 @@ use Prim.Native.String.{String}
 use lib.ListN.{length}
 use Rattle.lists.specs.Lists.{pick}
 use Rattle.scan.specs.Ascii.{ascii}
-use Rattle.optable.specs.Table.{attributeKind}
-use Rattle.optable.specs.Find.{findAttribute}
+use Rattle.optable.specs.Table.{Direction, CompareType, noKind, attributeKind, choiceForm, choiceKind, choiceNamed}
+use Rattle.optable.specs.Find.{findAttribute, findChoiceKind}
 use Rattle.attributes.specs.Attributes.{kindFits}
 
 -- "Number lists are `array<i64: ..>` (empty: `array<i64>`), single numbers `0 : i64`, .. choices `#stablehlo<comparison_direction LT>`, constants
@@ -75,5 +75,13 @@ takeables =
     ∷ takeable "compare_type" aCompareType
     ∷ []
 
-abbrev pub AttributeKindPinsHold : Type 0
-AttributeKindPinsHold = map (λ (a : Takeable). map (fitsIn (a .name)) forms) takeables ≡ map (λ (a : Takeable). a .fits) takeables
+-- every value of an attribute fits where it should, and nowhere else; the kind of each choice: "enum of `EQ`, `NE`, `GE`, `GT`, `LE`, and `LT`" are
+-- directions, SIGNED and UNSIGNED types; the kind that a choice's first word begins
+pub record AttributeKindPinsHold : Type 0 where
+  pub attributes : map (λ (a : Takeable). map (fitsIn (a .name)) forms) takeables ≡ map (λ (a : Takeable). a .fits) takeables
+  pub choices :
+      map (λ n. choiceKind (choiceNamed n)) ("EQ" ∷ "NE" ∷ "GE" ∷ "GT" ∷ "LE" ∷ "LT" ∷ "SIGNED" ∷ "UNSIGNED" ∷ "FLOAT" ∷ [])
+      ≡ Direction ∷ Direction ∷ Direction ∷ Direction ∷ Direction ∷ Direction ∷ CompareType ∷ CompareType ∷ noKind ∷ []
+  pub words :
+      map (λ n. choiceForm (findChoiceKind (ascii n) 0 (length (ascii n)))) ("comparison_direction" ∷ "comparison_type" ∷ "compare_type" ∷ [])
+      ≡ Direction ∷ CompareType ∷ noKind ∷ []

@@ -19,8 +19,8 @@ use Rattle.optable.specs.declared.Row.{Row}
 use Rattle.optable.specs.Table.{attributeNames, noAttribute, opNames, quoted, opNamed, rowAt, mayReduce}
 use Rattle.optable.specs.Takes.{takes, operandTaken, resultTaken}
 
-abbrev rowNamed : String → Row
-rowNamed n = rowAt (opNamed n)
+abbrev rowByName : String → Row
+rowByName n = rowAt (opNamed n)
 
 -- ---- operand counts, attributes and constraints
 
@@ -53,7 +53,7 @@ attributeNameAt k = getD attributeNames k []
 -- what the row of a name says
 abbrev signatureFound : String → Signature
 signatureFound n =
-    let r = rowNamed n in
+    let r = rowByName n in
     let columns = r .a ∷ r .b ∷ r .c ∷ [] in
     record {
       name = n;
@@ -119,42 +119,42 @@ abbrev taking : (Row → Bool) → List String → Taking
 taking test names = record { test = test; names = names }
 
 -- the op has an operand j, which may be a tensor of this element type and rank
-abbrev operandOf : ℕ → ElementType → ℕ → Row → Bool
-operandOf j e rank r = ltb j (r .most) && operandTaken r j e rank
+abbrev operandMay : ℕ → ElementType → ℕ → Row → Bool
+operandMay j e rank r = ltb j (r .most) && operandTaken r j e rank
 
-abbrev resultOf : ElementType → Row → Bool
-resultOf e r = resultTaken r e
+abbrev resultMay : ElementType → Row → Bool
+resultMay e r = resultTaken r e
 
 abbrev passing : (Row → Bool) → List Signature → List String
 passing test [] = []
-passing test (s ∷ ss) = let rest = passing test ss in pick (test (rowNamed (s .name))) (s .name ∷ rest) rest
+passing test (s ∷ ss) = let rest = passing test ss in pick (test (rowByName (s .name))) (s .name ∷ rest) rest
 
 abbrev pub takings : List Taking
 takings =
     -- refusal 7, "an element type .. that the op's Inputs .. table in 000 doesn't take": the first operand may be i1
-    taking (operandOf 0 I1 2) ("add" ∷ "and" ∷ "broadcast_in_dim" ∷ "clamp" ∷ "compare" ∷ "concatenate" ∷ "convert" ∷ "dynamic_slice" ∷ "maximum" ∷ "minimum" ∷ "multiply" ∷ "not" ∷ "or" ∷ "pad" ∷ "reduce" ∷ "reshape" ∷ "reverse" ∷ "select" ∷ "slice" ∷ "transpose" ∷ "xor" ∷ [])
+    taking (operandMay 0 I1 2) ("add" ∷ "and" ∷ "broadcast_in_dim" ∷ "clamp" ∷ "compare" ∷ "concatenate" ∷ "convert" ∷ "dynamic_slice" ∷ "maximum" ∷ "minimum" ∷ "multiply" ∷ "not" ∷ "or" ∷ "pad" ∷ "reduce" ∷ "reshape" ∷ "reverse" ∷ "select" ∷ "slice" ∷ "transpose" ∷ "xor" ∷ [])
     -- .. ui8: not where 000 has "signed integer", nor for "tensor of type `i1`"
-    ∷ taking (operandOf 0 U8 2) ("add" ∷ "and" ∷ "broadcast_in_dim" ∷ "clamp" ∷ "compare" ∷ "concatenate" ∷ "convert" ∷ "count_leading_zeros" ∷ "divide" ∷ "dynamic_slice" ∷ "maximum" ∷ "minimum" ∷ "multiply" ∷ "negate" ∷ "not" ∷ "or" ∷ "pad" ∷ "popcnt" ∷ "reduce" ∷ "remainder" ∷ "reshape" ∷ "reverse" ∷ "shift_left" ∷ "shift_right_arithmetic" ∷ "shift_right_logical" ∷ "slice" ∷ "subtract" ∷ "transpose" ∷ "xor" ∷ [])
+    ∷ taking (operandMay 0 U8 2) ("add" ∷ "and" ∷ "broadcast_in_dim" ∷ "clamp" ∷ "compare" ∷ "concatenate" ∷ "convert" ∷ "count_leading_zeros" ∷ "divide" ∷ "dynamic_slice" ∷ "maximum" ∷ "minimum" ∷ "multiply" ∷ "negate" ∷ "not" ∷ "or" ∷ "pad" ∷ "popcnt" ∷ "reduce" ∷ "remainder" ∷ "reshape" ∷ "reverse" ∷ "shift_left" ∷ "shift_right_arithmetic" ∷ "shift_right_logical" ∷ "slice" ∷ "subtract" ∷ "transpose" ∷ "xor" ∷ [])
     -- .. i8
-    ∷ taking (operandOf 0 I8 2) ("abs" ∷ "add" ∷ "and" ∷ "broadcast_in_dim" ∷ "clamp" ∷ "compare" ∷ "concatenate" ∷ "convert" ∷ "count_leading_zeros" ∷ "divide" ∷ "dynamic_slice" ∷ "maximum" ∷ "minimum" ∷ "multiply" ∷ "negate" ∷ "not" ∷ "or" ∷ "pad" ∷ "popcnt" ∷ "reduce" ∷ "remainder" ∷ "reshape" ∷ "reverse" ∷ "shift_left" ∷ "shift_right_arithmetic" ∷ "shift_right_logical" ∷ "sign" ∷ "slice" ∷ "subtract" ∷ "transpose" ∷ "xor" ∷ [])
+    ∷ taking (operandMay 0 I8 2) ("abs" ∷ "add" ∷ "and" ∷ "broadcast_in_dim" ∷ "clamp" ∷ "compare" ∷ "concatenate" ∷ "convert" ∷ "count_leading_zeros" ∷ "divide" ∷ "dynamic_slice" ∷ "maximum" ∷ "minimum" ∷ "multiply" ∷ "negate" ∷ "not" ∷ "or" ∷ "pad" ∷ "popcnt" ∷ "reduce" ∷ "remainder" ∷ "reshape" ∷ "reverse" ∷ "shift_left" ∷ "shift_right_arithmetic" ∷ "shift_right_logical" ∷ "sign" ∷ "slice" ∷ "subtract" ∷ "transpose" ∷ "xor" ∷ [])
     -- the second operand may be an i1 of rank 0, and of another rank: not where 000 has "0-dimensional"
-    ∷ taking (operandOf 1 I1 0) ("add" ∷ "and" ∷ "clamp" ∷ "compare" ∷ "concatenate" ∷ "maximum" ∷ "minimum" ∷ "multiply" ∷ "or" ∷ "pad" ∷ "reduce" ∷ "select" ∷ "xor" ∷ [])
-    ∷ taking (operandOf 1 I1 1) ("add" ∷ "and" ∷ "clamp" ∷ "compare" ∷ "concatenate" ∷ "maximum" ∷ "minimum" ∷ "multiply" ∷ "or" ∷ "select" ∷ "xor" ∷ [])
+    ∷ taking (operandMay 1 I1 0) ("add" ∷ "and" ∷ "clamp" ∷ "compare" ∷ "concatenate" ∷ "maximum" ∷ "minimum" ∷ "multiply" ∷ "or" ∷ "pad" ∷ "reduce" ∷ "select" ∷ "xor" ∷ [])
+    ∷ taking (operandMay 1 I1 1) ("add" ∷ "and" ∷ "clamp" ∷ "compare" ∷ "concatenate" ∷ "maximum" ∷ "minimum" ∷ "multiply" ∷ "or" ∷ "select" ∷ "xor" ∷ [])
     -- .. a ui8
-    ∷ taking (operandOf 1 U8 0) ("add" ∷ "and" ∷ "clamp" ∷ "compare" ∷ "concatenate" ∷ "divide" ∷ "dynamic_slice" ∷ "maximum" ∷ "minimum" ∷ "multiply" ∷ "or" ∷ "pad" ∷ "reduce" ∷ "remainder" ∷ "select" ∷ "shift_left" ∷ "shift_right_arithmetic" ∷ "shift_right_logical" ∷ "subtract" ∷ "xor" ∷ [])
-    ∷ taking (operandOf 1 U8 1) ("add" ∷ "and" ∷ "clamp" ∷ "compare" ∷ "concatenate" ∷ "divide" ∷ "maximum" ∷ "minimum" ∷ "multiply" ∷ "or" ∷ "remainder" ∷ "select" ∷ "shift_left" ∷ "shift_right_arithmetic" ∷ "shift_right_logical" ∷ "subtract" ∷ "xor" ∷ [])
+    ∷ taking (operandMay 1 U8 0) ("add" ∷ "and" ∷ "clamp" ∷ "compare" ∷ "concatenate" ∷ "divide" ∷ "dynamic_slice" ∷ "maximum" ∷ "minimum" ∷ "multiply" ∷ "or" ∷ "pad" ∷ "reduce" ∷ "remainder" ∷ "select" ∷ "shift_left" ∷ "shift_right_arithmetic" ∷ "shift_right_logical" ∷ "subtract" ∷ "xor" ∷ [])
+    ∷ taking (operandMay 1 U8 1) ("add" ∷ "and" ∷ "clamp" ∷ "compare" ∷ "concatenate" ∷ "divide" ∷ "maximum" ∷ "minimum" ∷ "multiply" ∷ "or" ∷ "remainder" ∷ "select" ∷ "shift_left" ∷ "shift_right_arithmetic" ∷ "shift_right_logical" ∷ "subtract" ∷ "xor" ∷ [])
     -- .. an i8
-    ∷ taking (operandOf 1 I8 0) ("add" ∷ "and" ∷ "clamp" ∷ "compare" ∷ "concatenate" ∷ "divide" ∷ "dynamic_slice" ∷ "maximum" ∷ "minimum" ∷ "multiply" ∷ "or" ∷ "pad" ∷ "reduce" ∷ "remainder" ∷ "select" ∷ "shift_left" ∷ "shift_right_arithmetic" ∷ "shift_right_logical" ∷ "subtract" ∷ "xor" ∷ [])
+    ∷ taking (operandMay 1 I8 0) ("add" ∷ "and" ∷ "clamp" ∷ "compare" ∷ "concatenate" ∷ "divide" ∷ "dynamic_slice" ∷ "maximum" ∷ "minimum" ∷ "multiply" ∷ "or" ∷ "pad" ∷ "reduce" ∷ "remainder" ∷ "select" ∷ "shift_left" ∷ "shift_right_arithmetic" ∷ "shift_right_logical" ∷ "subtract" ∷ "xor" ∷ [])
     -- the third operand may be an i1, and one of rank 1, a ui8
-    ∷ taking (operandOf 2 I1 0) ("clamp" ∷ "concatenate" ∷ "select" ∷ [])
-    ∷ taking (operandOf 2 I1 1) ("clamp" ∷ "concatenate" ∷ "select" ∷ [])
-    ∷ taking (operandOf 2 U8 0) ("clamp" ∷ "concatenate" ∷ "dynamic_slice" ∷ "select" ∷ [])
+    ∷ taking (operandMay 2 I1 0) ("clamp" ∷ "concatenate" ∷ "select" ∷ [])
+    ∷ taking (operandMay 2 I1 1) ("clamp" ∷ "concatenate" ∷ "select" ∷ [])
+    ∷ taking (operandMay 2 U8 0) ("clamp" ∷ "concatenate" ∷ "dynamic_slice" ∷ "select" ∷ [])
     -- the "Outputs table": the result may be i1
-    ∷ taking (resultOf I1) ("add" ∷ "and" ∷ "broadcast_in_dim" ∷ "clamp" ∷ "compare" ∷ "concatenate" ∷ "constant" ∷ "convert" ∷ "dynamic_slice" ∷ "maximum" ∷ "minimum" ∷ "multiply" ∷ "not" ∷ "or" ∷ "pad" ∷ "reduce" ∷ "reshape" ∷ "reverse" ∷ "select" ∷ "slice" ∷ "transpose" ∷ "xor" ∷ [])
+    ∷ taking (resultMay I1) ("add" ∷ "and" ∷ "broadcast_in_dim" ∷ "clamp" ∷ "compare" ∷ "concatenate" ∷ "constant" ∷ "convert" ∷ "dynamic_slice" ∷ "maximum" ∷ "minimum" ∷ "multiply" ∷ "not" ∷ "or" ∷ "pad" ∷ "reduce" ∷ "reshape" ∷ "reverse" ∷ "select" ∷ "slice" ∷ "transpose" ∷ "xor" ∷ [])
     -- .. ui8
-    ∷ taking (resultOf U8) ("add" ∷ "and" ∷ "broadcast_in_dim" ∷ "clamp" ∷ "concatenate" ∷ "constant" ∷ "convert" ∷ "count_leading_zeros" ∷ "divide" ∷ "dynamic_slice" ∷ "iota" ∷ "maximum" ∷ "minimum" ∷ "multiply" ∷ "negate" ∷ "not" ∷ "or" ∷ "pad" ∷ "popcnt" ∷ "reduce" ∷ "remainder" ∷ "reshape" ∷ "reverse" ∷ "select" ∷ "shift_left" ∷ "shift_right_arithmetic" ∷ "shift_right_logical" ∷ "slice" ∷ "subtract" ∷ "transpose" ∷ "xor" ∷ [])
+    ∷ taking (resultMay U8) ("add" ∷ "and" ∷ "broadcast_in_dim" ∷ "clamp" ∷ "concatenate" ∷ "constant" ∷ "convert" ∷ "count_leading_zeros" ∷ "divide" ∷ "dynamic_slice" ∷ "iota" ∷ "maximum" ∷ "minimum" ∷ "multiply" ∷ "negate" ∷ "not" ∷ "or" ∷ "pad" ∷ "popcnt" ∷ "reduce" ∷ "remainder" ∷ "reshape" ∷ "reverse" ∷ "select" ∷ "shift_left" ∷ "shift_right_arithmetic" ∷ "shift_right_logical" ∷ "slice" ∷ "subtract" ∷ "transpose" ∷ "xor" ∷ [])
     -- .. i8
-    ∷ taking (resultOf I8) ("abs" ∷ "add" ∷ "and" ∷ "broadcast_in_dim" ∷ "clamp" ∷ "concatenate" ∷ "constant" ∷ "convert" ∷ "count_leading_zeros" ∷ "divide" ∷ "dynamic_slice" ∷ "iota" ∷ "maximum" ∷ "minimum" ∷ "multiply" ∷ "negate" ∷ "not" ∷ "or" ∷ "pad" ∷ "popcnt" ∷ "reduce" ∷ "remainder" ∷ "reshape" ∷ "reverse" ∷ "select" ∷ "shift_left" ∷ "shift_right_arithmetic" ∷ "shift_right_logical" ∷ "sign" ∷ "slice" ∷ "subtract" ∷ "transpose" ∷ "xor" ∷ [])
+    ∷ taking (resultMay I8) ("abs" ∷ "add" ∷ "and" ∷ "broadcast_in_dim" ∷ "clamp" ∷ "concatenate" ∷ "constant" ∷ "convert" ∷ "count_leading_zeros" ∷ "divide" ∷ "dynamic_slice" ∷ "iota" ∷ "maximum" ∷ "minimum" ∷ "multiply" ∷ "negate" ∷ "not" ∷ "or" ∷ "pad" ∷ "popcnt" ∷ "reduce" ∷ "remainder" ∷ "reshape" ∷ "reverse" ∷ "select" ∷ "shift_left" ∷ "shift_right_arithmetic" ∷ "shift_right_logical" ∷ "sign" ∷ "slice" ∷ "subtract" ∷ "transpose" ∷ "xor" ∷ [])
     -- 000 has a body for reduce alone
     ∷ taking (λ r. r .body) ("reduce" ∷ [])
     -- "one op of add, multiply, maximum, minimum, and, or, xor"

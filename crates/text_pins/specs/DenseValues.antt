@@ -24,11 +24,11 @@ pub record DenseText : Type 0 where
   pub text : String
   pub judged : DenseJudged
 
-abbrev accepted : ElementType → List ℕ → String → List ℕ → DenseText
-accepted e dims text elements = record { element = e; dims = dims; text = text; judged = record { fits = true; elements = elements } }
+abbrev reads : ElementType → List ℕ → String → List ℕ → DenseText
+reads e dims text elements = record { element = e; dims = dims; text = text; judged = record { fits = true; elements = elements } }
 
-abbrev refused : ElementType → List ℕ → String → DenseText
-refused e dims text = record { element = e; dims = dims; text = text; judged = record { fits = false; elements = [] } }
+abbrev refuses : ElementType → List ℕ → String → DenseText
+refuses e dims text = record { element = e; dims = dims; text = text; judged = record { fits = false; elements = [] } }
 
 abbrev judge : DenseText → DenseJudged
 judge d =
@@ -38,95 +38,95 @@ judge d =
 abbrev pub denseTexts : List DenseText
 denseTexts =
     -- "Rank 0 takes only the literal"
-    accepted I8 [] "5>" (5 ∷ [])
-    ∷ refused I8 [] "[5]>"
-    ∷ refused I8 [] "[]>"
+    reads I8 [] "5>" (5 ∷ [])
+    ∷ refuses I8 [] "[5]>"
+    ∷ refuses I8 [] "[]>"
     -- "one literal for every element", also where there is none
-    ∷ accepted I8 (3 ∷ []) "7>" (7 ∷ 7 ∷ 7 ∷ [])
-    ∷ accepted I8 (2 ∷ 2 ∷ []) "-1>" (18446744073709551615 ∷ 18446744073709551615 ∷ 18446744073709551615 ∷ 18446744073709551615 ∷ [])
-    ∷ accepted I8 (0 ∷ []) "7>" []
-    ∷ accepted I1 (2 ∷ []) "true>" (1 ∷ 1 ∷ [])
+    ∷ reads I8 (3 ∷ []) "7>" (7 ∷ 7 ∷ 7 ∷ [])
+    ∷ reads I8 (2 ∷ 2 ∷ []) "-1>" (18446744073709551615 ∷ 18446744073709551615 ∷ 18446744073709551615 ∷ 18446744073709551615 ∷ [])
+    ∷ reads I8 (0 ∷ []) "7>" []
+    ∷ reads I1 (2 ∷ []) "true>" (1 ∷ 1 ∷ [])
     -- "lists nested one level per dimension with exactly the sizes of the shape"
-    ∷ accepted I8 (1 ∷ []) "[5]>" (5 ∷ [])
-    ∷ refused I8 (1 ∷ []) "[[5]]>"
-    ∷ refused I8 (1 ∷ 1 ∷ []) "[5]>"
-    ∷ accepted I8 (1 ∷ 1 ∷ []) "[[5]]>" (5 ∷ [])
-    ∷ accepted I8 (2 ∷ []) "[1, 2]>" (1 ∷ 2 ∷ [])
-    ∷ refused I8 (2 ∷ []) "[1]>"
-    ∷ refused I8 (2 ∷ []) "[1, 2, 3]>"
-    ∷ accepted I8 (2 ∷ 3 ∷ []) "[[1, 2, 3], [4, 5, 6]]>" (1 ∷ 2 ∷ 3 ∷ 4 ∷ 5 ∷ 6 ∷ [])
-    ∷ refused I8 (2 ∷ 3 ∷ []) "[[1, 2], [3, 4], [5, 6]]>"
-    ∷ refused I8 (2 ∷ 3 ∷ []) "[[1, 2, 3], [4, 5]]>"
-    ∷ refused I8 (2 ∷ 3 ∷ []) "[1, 2, 3, 4, 5, 6]>"
-    ∷ refused I8 (2 ∷ 2 ∷ []) "[[1, 2], 3]>"
-    ∷ refused I8 (2 ∷ 2 ∷ []) "[1, [2, 3]]>"
+    ∷ reads I8 (1 ∷ []) "[5]>" (5 ∷ [])
+    ∷ refuses I8 (1 ∷ []) "[[5]]>"
+    ∷ refuses I8 (1 ∷ 1 ∷ []) "[5]>"
+    ∷ reads I8 (1 ∷ 1 ∷ []) "[[5]]>" (5 ∷ [])
+    ∷ reads I8 (2 ∷ []) "[1, 2]>" (1 ∷ 2 ∷ [])
+    ∷ refuses I8 (2 ∷ []) "[1]>"
+    ∷ refuses I8 (2 ∷ []) "[1, 2, 3]>"
+    ∷ reads I8 (2 ∷ 3 ∷ []) "[[1, 2, 3], [4, 5, 6]]>" (1 ∷ 2 ∷ 3 ∷ 4 ∷ 5 ∷ 6 ∷ [])
+    ∷ refuses I8 (2 ∷ 3 ∷ []) "[[1, 2], [3, 4], [5, 6]]>"
+    ∷ refuses I8 (2 ∷ 3 ∷ []) "[[1, 2, 3], [4, 5]]>"
+    ∷ refuses I8 (2 ∷ 3 ∷ []) "[1, 2, 3, 4, 5, 6]>"
+    ∷ refuses I8 (2 ∷ 2 ∷ []) "[[1, 2], 3]>"
+    ∷ refuses I8 (2 ∷ 2 ∷ []) "[1, [2, 3]]>"
     -- "(`[[], []]` for 2x0, `[]` for 0x2)"
-    ∷ accepted I8 (2 ∷ 0 ∷ []) "[[], []]>" []
-    ∷ refused I8 (2 ∷ 0 ∷ []) "[]>"
-    ∷ refused I8 (2 ∷ 0 ∷ []) "[[]]>"
-    ∷ accepted I8 (0 ∷ 2 ∷ []) "[]>" []
-    ∷ refused I8 (0 ∷ 2 ∷ []) "[[], []]>"
-    ∷ refused I8 (0 ∷ 2 ∷ []) "[[]]>"
-    ∷ refused I8 (0 ∷ []) "[1]>"
+    ∷ reads I8 (2 ∷ 0 ∷ []) "[[], []]>" []
+    ∷ refuses I8 (2 ∷ 0 ∷ []) "[]>"
+    ∷ refuses I8 (2 ∷ 0 ∷ []) "[[]]>"
+    ∷ reads I8 (0 ∷ 2 ∷ []) "[]>" []
+    ∷ refuses I8 (0 ∷ 2 ∷ []) "[[], []]>"
+    ∷ refuses I8 (0 ∷ 2 ∷ []) "[[]]>"
+    ∷ refuses I8 (0 ∷ []) "[1]>"
     -- commas between items, and brackets
-    ∷ refused I8 (2 ∷ []) "[1 2]>"
-    ∷ refused I8 (2 ∷ []) "[1, 2,]>"
-    ∷ refused I8 (2 ∷ []) "[, 1, 2]>"
-    ∷ refused I8 (2 ∷ []) "[1, 2"
-    ∷ refused I8 (2 ∷ []) "(1, 2)>"
-    ∷ accepted I8 (2 ∷ []) " [ 1 ,2 ]>" (1 ∷ 2 ∷ [])
+    ∷ refuses I8 (2 ∷ []) "[1 2]>"
+    ∷ refuses I8 (2 ∷ []) "[1, 2,]>"
+    ∷ refuses I8 (2 ∷ []) "[, 1, 2]>"
+    ∷ refuses I8 (2 ∷ []) "[1, 2"
+    ∷ refuses I8 (2 ∷ []) "(1, 2)>"
+    ∷ reads I8 (2 ∷ []) " [ 1 ,2 ]>" (1 ∷ 2 ∷ [])
     -- "Booleans are `true` and `false`"; a number is none of them, and they are no numbers
-    ∷ accepted I1 [] "true>" (1 ∷ [])
-    ∷ accepted I1 [] "false>" (0 ∷ [])
-    ∷ refused I1 [] "1>"
-    ∷ refused I1 [] "0>"
-    ∷ refused I1 [] "True>"
-    ∷ refused I1 [] "truer>"
-    ∷ refused I8 [] "true>"
-    ∷ refused U8 [] "false>"
-    ∷ refused I1 (2 ∷ []) "[true, 0]>"
-    ∷ accepted I1 (2 ∷ []) "[true, false]>" (1 ∷ 0 ∷ [])
-    ∷ refused I8 [] "x>"
-    ∷ refused I8 [] "-x>"
+    ∷ reads I1 [] "true>" (1 ∷ [])
+    ∷ reads I1 [] "false>" (0 ∷ [])
+    ∷ refuses I1 [] "1>"
+    ∷ refuses I1 [] "0>"
+    ∷ refuses I1 [] "True>"
+    ∷ refuses I1 [] "truer>"
+    ∷ refuses I8 [] "true>"
+    ∷ refuses U8 [] "false>"
+    ∷ refuses I1 (2 ∷ []) "[true, 0]>"
+    ∷ reads I1 (2 ∷ []) "[true, false]>" (1 ∷ 0 ∷ [])
+    ∷ refuses I8 [] "x>"
+    ∷ refuses I8 [] "-x>"
     -- "numbers are decimal", with a sign
-    ∷ accepted I8 [] "+5>" (5 ∷ [])
-    ∷ accepted I8 [] "-5>" (18446744073709551611 ∷ [])
-    ∷ accepted I8 [] "005>" (5 ∷ [])
-    ∷ accepted U8 [] "-0>" (0 ∷ [])
+    ∷ reads I8 [] "+5>" (5 ∷ [])
+    ∷ reads I8 [] "-5>" (18446744073709551611 ∷ [])
+    ∷ reads I8 [] "005>" (5 ∷ [])
+    ∷ reads U8 [] "-0>" (0 ∷ [])
     -- the ends of each type's range, and one beyond
-    ∷ accepted I8 [] "127>" (127 ∷ [])
-    ∷ refused I8 [] "128>"
-    ∷ accepted I8 [] "-128>" (18446744073709551488 ∷ [])
-    ∷ refused I8 [] "-129>"
-    ∷ accepted I16 [] "32767>" (32767 ∷ [])
-    ∷ refused I16 [] "32768>"
-    ∷ accepted I16 [] "-32768>" (18446744073709518848 ∷ [])
-    ∷ refused I16 [] "-32769>"
-    ∷ accepted I32 [] "2147483647>" (2147483647 ∷ [])
-    ∷ refused I32 [] "2147483648>"
-    ∷ accepted I32 [] "-2147483648>" (18446744071562067968 ∷ [])
-    ∷ refused I32 [] "-2147483649>"
-    ∷ accepted I64 [] "9223372036854775807>" (9223372036854775807 ∷ [])
-    ∷ refused I64 [] "9223372036854775808>"
-    ∷ accepted I64 [] "-9223372036854775808>" (9223372036854775808 ∷ [])
-    ∷ refused I64 [] "-9223372036854775809>"
-    ∷ accepted U8 [] "255>" (255 ∷ [])
-    ∷ refused U8 [] "256>"
-    ∷ refused U8 [] "-1>"
-    ∷ accepted U16 [] "65535>" (65535 ∷ [])
-    ∷ refused U16 [] "65536>"
-    ∷ refused U16 [] "-1>"
-    ∷ accepted U32 [] "4294967295>" (4294967295 ∷ [])
-    ∷ refused U32 [] "4294967296>"
-    ∷ refused U32 [] "-1>"
-    ∷ accepted U64 [] "18446744073709551615>" (18446744073709551615 ∷ [])
-    ∷ refused U64 [] "18446744073709551616>"
-    ∷ refused U64 [] "-1>"
-    ∷ refused I64 [] "18446744073709551616>"
-    ∷ refused U64 [] "36893488147419103233>"
+    ∷ reads I8 [] "127>" (127 ∷ [])
+    ∷ refuses I8 [] "128>"
+    ∷ reads I8 [] "-128>" (18446744073709551488 ∷ [])
+    ∷ refuses I8 [] "-129>"
+    ∷ reads I16 [] "32767>" (32767 ∷ [])
+    ∷ refuses I16 [] "32768>"
+    ∷ reads I16 [] "-32768>" (18446744073709518848 ∷ [])
+    ∷ refuses I16 [] "-32769>"
+    ∷ reads I32 [] "2147483647>" (2147483647 ∷ [])
+    ∷ refuses I32 [] "2147483648>"
+    ∷ reads I32 [] "-2147483648>" (18446744071562067968 ∷ [])
+    ∷ refuses I32 [] "-2147483649>"
+    ∷ reads I64 [] "9223372036854775807>" (9223372036854775807 ∷ [])
+    ∷ refuses I64 [] "9223372036854775808>"
+    ∷ reads I64 [] "-9223372036854775808>" (9223372036854775808 ∷ [])
+    ∷ refuses I64 [] "-9223372036854775809>"
+    ∷ reads U8 [] "255>" (255 ∷ [])
+    ∷ refuses U8 [] "256>"
+    ∷ refuses U8 [] "-1>"
+    ∷ reads U16 [] "65535>" (65535 ∷ [])
+    ∷ refuses U16 [] "65536>"
+    ∷ refuses U16 [] "-1>"
+    ∷ reads U32 [] "4294967295>" (4294967295 ∷ [])
+    ∷ refuses U32 [] "4294967296>"
+    ∷ refuses U32 [] "-1>"
+    ∷ reads U64 [] "18446744073709551615>" (18446744073709551615 ∷ [])
+    ∷ refuses U64 [] "18446744073709551616>"
+    ∷ refuses U64 [] "-1>"
+    ∷ refuses I64 [] "18446744073709551616>"
+    ∷ refuses U64 [] "36893488147419103233>"
     -- kind and range of a literal for no element
-    ∷ refused I8 (0 ∷ []) "128>"
-    ∷ refused I8 (0 ∷ []) "true>"
+    ∷ refuses I8 (0 ∷ []) "128>"
+    ∷ refuses I8 (0 ∷ []) "true>"
     ∷ []
 
 abbrev pub DensePinsHold : Type 0

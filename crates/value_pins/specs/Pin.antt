@@ -18,15 +18,15 @@ abbrev pub Pinned : List Pin → Type 0
 Pinned pins = map (λ (p : Pin). p .found) pins ≡ map (λ (p : Pin). p .told) pins
 
 -- the slot of -k: "a signed one modulo 2^64"
-abbrev pub minus : ℕ → ℕ
-minus k = 18446744073709551616 - k
+abbrev pub neg : ℕ → ℕ
+neg k = 18446744073709551616 - k
 
 -- false and true as 0 and 1
 abbrev pub bits : List Bool → List ℕ
 bits l = map (λ b. pick b 1 0) l
 
 -- f on each pair of numbers that stand at one place of two lists
-abbrev pub pairwise : (ℕ → ℕ → ℕ) → List ℕ → List ℕ → List ℕ
-pairwise f [] ys = []
-pairwise f (x ∷ xs) [] = []
-pairwise f (x ∷ xs) (y ∷ ys) = f x y ∷ pairwise f xs ys
+abbrev pub zipped : (ℕ → ℕ → ℕ) → List ℕ → List ℕ → List ℕ
+zipped f [] ys = []
+zipped f (x ∷ xs) [] = []
+zipped f (x ∷ xs) (y ∷ ys) = f x y ∷ zipped f xs ys

@@ -13,7 +13,7 @@ use Rattle.shape.specs.Index.{size, volume, unravel, ravel, isWithin, elementAt
 use Rattle.maps.specs.Formulas.{reshaped, broadcasted, transposed, sliced, reversed, padded, dynamicSliced, counted}
 use Rattle.maps.specs.Concatenation.{concatenated, sumAlong}
 use Rattle.reduction.specs.Rows.{sliceShape, keptShape, reduced}
-use Rattle.value_pins.specs.Pin.{Pin, pin, minus, bits, Pinned}
+use Rattle.value_pins.specs.Pin.{Pin, pin, neg, bits, Pinned}
 
 -- the tensor of the shape that holds 0, 1, 2, ..
 abbrev positions : List ℕ → List ℕ
@@ -78,8 +78,8 @@ shapePins =
     ∷ padPin (pos 1 ∷ []) (2 ∷ []) (2 ∷ []) (6 ∷ []) (99 ∷ 0 ∷ 99 ∷ 99 ∷ 1 ∷ 99 ∷ [])
     ∷ padPin (negsuc 2 ∷ []) (1 ∷ []) (3 ∷ []) (4 ∷ []) (99 ∷ 2 ∷ 99 ∷ 99 ∷ [])
     -- "dynamic_slice: each start, read in its own type, is clamped to 0 .. size - slice size": below, above, and neither
-    ∷ dynamicSlicePin I8 (minus 1 ∷ 5 ∷ []) (3 ∷ 4 ∷ []) (2 ∷ 2 ∷ []) (2 ∷ 3 ∷ 6 ∷ 7 ∷ [])
-    ∷ dynamicSlicePin I8 (1 ∷ minus 128 ∷ []) (3 ∷ 4 ∷ []) (2 ∷ 2 ∷ []) (4 ∷ 5 ∷ 8 ∷ 9 ∷ [])
+    ∷ dynamicSlicePin I8 (neg 1 ∷ 5 ∷ []) (3 ∷ 4 ∷ []) (2 ∷ 2 ∷ []) (2 ∷ 3 ∷ 6 ∷ 7 ∷ [])
+    ∷ dynamicSlicePin I8 (1 ∷ neg 128 ∷ []) (3 ∷ 4 ∷ []) (2 ∷ 2 ∷ []) (4 ∷ 5 ∷ 8 ∷ 9 ∷ [])
     ∷ dynamicSlicePin I8 (127 ∷ 1 ∷ []) (3 ∷ 4 ∷ []) (2 ∷ 2 ∷ []) (5 ∷ 6 ∷ 9 ∷ 10 ∷ [])
     ∷ dynamicSlicePin U8 (255 ∷ 1 ∷ []) (3 ∷ 4 ∷ []) (2 ∷ 2 ∷ []) (5 ∷ 6 ∷ 9 ∷ 10 ∷ [])
     ∷ dynamicSlicePin U8 (0 ∷ 200 ∷ []) (3 ∷ 4 ∷ []) (2 ∷ 2 ∷ []) (2 ∷ 3 ∷ 6 ∷ 7 ∷ [])
