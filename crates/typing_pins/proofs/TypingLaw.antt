@@ -15,14 +15,17 @@ countPins =
     pin "func.func @m(%a: tensor<i8>) {%b = \"stablehlo.not\"(%a) : (tensor<i8>) -> tensor<i8> %c = \"stablehlo.add\"(%a) : (tensor<i8>) -> tensor<i8> \"func.return\"() : () -> ()}" 7 1 0 ∷
     -- "dynamic_slice: from 1"
     pin "func.func @m() {%b = \"stablehlo.dynamic_slice\"() {slice_sizes = array<i64>} : () -> tensor<i8> \"func.return\"() : () -> ()}" 7 0 0 ∷
-    -- "of results (one ..": none, two
+    -- "of results (one ..": no name, no type, neither, two
     pin "func.func @m(%a: tensor<i8>) {\"stablehlo.not\"(%a) : (tensor<i8>) -> tensor<i8> \"func.return\"() : () -> ()}" 7 0 0 ∷
+    pin "func.func @m(%a: tensor<i8>) {%b = \"stablehlo.not\"(%a) : (tensor<i8>) -> () \"func.return\"() : () -> ()}" 7 0 0 ∷
+    pin "func.func @m(%a: tensor<i8>) {\"stablehlo.not\"(%a) : (tensor<i8>) -> () \"func.return\"() : () -> ()}" 7 0 0 ∷
     pin "func.func @m(%a: tensor<i8>) {%b, %c = \"stablehlo.not\"(%a) : (tensor<i8>) -> (tensor<i8>, tensor<i8>) \"func.return\"() : () -> ()}" 7 0 0 ∷
     -- ".. return: none)"
     pin "func.func @m(%a: tensor<i8>) {%b = \"stablehlo.not\"(%a) : (tensor<i8>) -> tensor<i8> %c = \"func.return\"() : () -> ()}" 7 1 0 ∷
-    -- "or of bodies": one of an op without, none of reduce
+    -- "or of bodies": one of an op without, none and two of reduce
     pin "func.func @m(%a: tensor<i8>) {%b = \"stablehlo.not\"(%a) ({^b(): \"stablehlo.return\"() : () -> ()}) : (tensor<i8>) -> tensor<i8> \"func.return\"() : () -> ()}" 7 0 0 ∷
     pin "func.func @m(%a: tensor<2xi8>, %z: tensor<i8>) {%r = \"stablehlo.reduce\"(%a, %z) {dimensions = array<i64: 0>} : (tensor<2xi8>, tensor<i8>) -> tensor<i8> \"func.return\"() : () -> ()}" 7 0 0 ∷
+    pin "func.func @m(%a: tensor<2xi8>, %z: tensor<i8>) {%r = \"stablehlo.reduce\"(%a, %z) ({^b(%p: tensor<i8>, %q: tensor<i8>): %s = \"stablehlo.or\"(%p, %q) : (tensor<i8>, tensor<i8>) -> tensor<i8> \"stablehlo.return\"(%s) : (tensor<i8>) -> ()}, {^b(%p: tensor<i8>, %q: tensor<i8>): %s = \"stablehlo.or\"(%p, %q) : (tensor<i8>, tensor<i8>) -> tensor<i8> \"stablehlo.return\"(%s) : (tensor<i8>) -> ()}) {dimensions = array<i64: 0>} : (tensor<2xi8>, tensor<i8>) -> tensor<i8> \"func.return\"() : () -> ()}" 7 0 0 ∷
     -- "a written operand type that isn't that of its definition"; one more than operands
     pin "func.func @m(%a: tensor<i8>) {%b = \"stablehlo.not\"(%a) : (tensor<i8>) -> tensor<i8> %c = \"stablehlo.not\"(%b) : (tensor<ui8>) -> tensor<ui8> \"func.return\"() : () -> ()}" 7 1 0 ∷
     pin "func.func @m(%a: tensor<i8>) {%b = \"stablehlo.not\"(%a) : (tensor<i8>, tensor<i8>) -> tensor<i8> \"func.return\"() : () -> ()}" 7 0 0 ∷
@@ -69,8 +72,9 @@ formPins =
     pin "func.func @m(%a: tensor<2xi8>, %z: tensor<i8>) {%r = \"stablehlo.reduce\"(%a, %z) ({^b(%p: tensor<i8>, %q: tensor<i8>): %s = \"stablehlo.or\"(%p, %p) : (tensor<i8>, tensor<i8>) -> tensor<i8> \"stablehlo.return\"(%s) : (tensor<i8>) -> ()}) {dimensions = array<i64: 0>} : (tensor<2xi8>, tensor<i8>) -> tensor<i8> \"func.return\"() : () -> ()}" 7 0 0 ∷
     pin "func.func @m(%a: tensor<2xi8>, %z: tensor<i8>) {%r = \"stablehlo.reduce\"(%a, %z) ({^b(%p: tensor<i8>, %q: tensor<i8>): %s = \"stablehlo.or\"(%p, %q) : (tensor<i8>, tensor<i8>) -> tensor<i8> \"stablehlo.return\"(%p) : (tensor<i8>) -> ()}) {dimensions = array<i64: 0>} : (tensor<2xi8>, tensor<i8>) -> tensor<i8> \"func.return\"() : () -> ()}" 7 0 0 ∷
     pin "func.func @m(%a: tensor<2xi8>, %z: tensor<i8>) {%r = \"stablehlo.reduce\"(%a, %z) ({^b(%p: tensor<i8>, %q: tensor<i8>): %s = \"stablehlo.or\"(%p, %q) : (tensor<i8>, tensor<i8>) -> tensor<2xi8> \"stablehlo.return\"(%s) : (tensor<2xi8>) -> ()}) {dimensions = array<i64: 0>} : (tensor<2xi8>, tensor<i8>) -> tensor<i8> \"func.return\"() : () -> ()}" 7 0 0 ∷
-    -- "return types that aren't the header's": another, fewer, more
+    -- "return types that aren't the header's": another, the header's but not the value's, fewer, more
     pin "func.func @m(%a: tensor<i8>) -> tensor<ui8> {%b = \"stablehlo.not\"(%a) : (tensor<i8>) -> tensor<i8> \"func.return\"(%b) : (tensor<i8>) -> ()}" 7 1 0 ∷
+    pin "func.func @m(%a: tensor<i8>) -> tensor<ui8> {%b = \"stablehlo.not\"(%a) : (tensor<i8>) -> tensor<i8> \"func.return\"(%b) : (tensor<ui8>) -> ()}" 7 1 0 ∷
     pin "func.func @m(%a: tensor<i8>) -> tensor<i8> {%b = \"stablehlo.not\"(%a) : (tensor<i8>) -> tensor<i8> \"func.return\"() : () -> ()}" 7 1 0 ∷
     pin "func.func @m(%a: tensor<i8>) {%b = \"stablehlo.not\"(%a) : (tensor<i8>) -> tensor<i8> \"func.return\"(%b) : (tensor<i8>) -> ()}" 7 1 0 ∷
     -- an attribute of the return
