@@ -1,9 +1,10 @@
 //! The coverage of generated cases: how often each refusal, each size number, each op of accepted
-//! programs and each constraint number of each op occurs; and near sizes 3 and 4 how often each refusal
-//! that reading does not give.
+//! programs, each constraint number of each op and each choice of the wrong kind occurs; and near sizes 3
+//! and 4 how often each refusal that reading does not give.
 
 use crate::cases::{self, Family, OPS, PAIRS};
-use crate::program::Program;
+use crate::optable::AttributeName;
+use crate::program::{AttributeValue, Choice, ChoiceKind, Op, Program};
 use crate::stream::{old_store, Case};
 use crate::{sizes, Answer};
 use std::collections::BTreeMap;
@@ -29,6 +30,36 @@ fn op_name(mnemonic: &str) -> String {
 
 fn constraint_name(mnemonic: &str, c: u64) -> String {
     format!("constraint {mnemonic} C{c}")
+}
+
+/// Choices of the wrong kind, at the op that refusal 7 names: the attribute, the choice's kind, and whether
+/// its word is one of EQ .. LT or one of SIGNED, UNSIGNED (OP-27).
+const CHOICES: [(AttributeName, ChoiceKind, bool); 6] = [
+    (AttributeName::ComparisonDirection, ChoiceKind::ComparisonType, true),
+    (AttributeName::ComparisonDirection, ChoiceKind::ComparisonType, false),
+    (AttributeName::ComparisonDirection, ChoiceKind::ComparisonDirection, false),
+    (AttributeName::CompareType, ChoiceKind::ComparisonDirection, true),
+    (AttributeName::CompareType, ChoiceKind::ComparisonDirection, false),
+    (AttributeName::CompareType, ChoiceKind::ComparisonType, true),
+];
+
+fn choice_name((attribute, kind, direction): (AttributeName, ChoiceKind, bool)) -> String {
+    let kind = match kind {
+        ChoiceKind::ComparisonDirection => "comparison_direction",
+        ChoiceKind::ComparisonType => "comparison_type",
+    };
+    let word = if direction { "LT" } else { "SIGNED" };
+    format!("refusal 7 {} = #stablehlo<{kind} {word}> or alike", attribute.name())
+}
+
+/// The choices of the wrong kind that a compare has.
+fn wrong_choices(op: &Op) -> Vec<String> {
+    let choice_of = |value: &AttributeValue| match value {
+        AttributeValue::Choice(kind, choice) => Some((*kind, !matches!(choice, Choice::Signed | Choice::Unsigned))),
+        _ => None,
+    };
+    let choices = op.attributes.iter().filter_map(|a| choice_of(&a.value).map(|(kind, word)| (a.name, kind, word)));
+    choices.filter(|found| CHOICES.contains(found)).map(choice_name).collect()
 }
 
 /// What a text is near to.
@@ -89,6 +120,11 @@ impl Coverage {
             self.add_constraint(case, answer);
         }
         let Ok(program) = crate::read(&case.text) else { return };
+        if answer.refusal == 7 {
+            for name in program.ops.get(answer.a as usize).map(wrong_choices).unwrap_or_default() {
+                self.count(name);
+            }
+        }
         if self.family == Family::Limits {
             for near in near(&program) {
                 self.count(near_name(answer.refusal, near));
@@ -119,7 +155,8 @@ impl Coverage {
         let ops = OPS.iter().map(|op| op_name(op));
         let constraints = PAIRS.iter().map(|(op, c)| constraint_name(op, *c));
         let near = if family == Family::Limits { near_names() } else { Vec::new() };
-        refusals.chain(sizes).chain(near).chain(ops).chain(constraints).collect()
+        let choices = if family == Family::General { CHOICES.map(choice_name).to_vec() } else { Vec::new() };
+        refusals.chain(sizes).chain(choices).chain(near).chain(ops).chain(constraints).collect()
     }
 
     pub fn occurred(&self, name: &str) -> u64 {

@@ -252,9 +252,12 @@ fn choice_of_other_kind(b: &mut Builder) -> Option<Op> {
     let directions = ("comparison_direction", *b.random.pick(&DIRECTIONS));
     let types = ("comparison_type", *b.random.pick(&["SIGNED", "UNSIGNED"]));
     let way = b.random.below(3);
-    let place = b.random.place(op.attributes.len());
-    let attribute = &mut op.attributes[place];
-    let (own, other) = if attribute.name == "comparison_direction" { (directions, types) } else { (types, directions) };
+    let name = *b.random.pick(&["comparison_direction", "compare_type"]);
+    if op.attributes.iter().all(|attribute| attribute.name != name) {
+        op.push_attribute(name, choice(types.0, types.1));
+    }
+    let attribute = op.attributes.iter_mut().find(|attribute| attribute.name == name)?;
+    let (own, other) = if name == "comparison_direction" { (directions, types) } else { (types, directions) };
     attribute.value = match way {
         0 => choice(other.0, other.1),
         1 => choice(other.0, own.1),

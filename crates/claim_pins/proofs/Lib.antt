@@ -1,0 +1,3 @@
+pub mod StartsLaw
+pub mod ClaimLaw
+pub mod ZeroDivisorLaw
