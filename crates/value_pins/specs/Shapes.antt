@@ -3,13 +3,14 @@
 -- Assumes nothing.
 use mathlib.Core.List.{List, [], _∷_}
 use Prim.Native.Nat.{ℕ}
-use lib.IntN.{ℤ, pos, negsuc}
+use lib.IntN.{ℤ, pos, negsuc, natAbs}
+use lib.Signed.{ltZ}
 use Rattle.lists.specs.Lists.{tab, concat}
-use Rattle.element.specs.Types.{slotOf}
 use Rattle.element.specs.declared.ElementType.{ElementType}
 use Rattle.element.specs.declared.ElementType.the-variants.{I8, I32, U8, U64}
 use Rattle.scalar.specs.declared.Body.the-variants as body
 use Rattle.shape.specs.Index.{size, volume, unravel, ravel, isWithin, elementAt, indices}
+use Rattle.shape.specs.Whole.{patternOf, numberOf, ceilDiv}
 use Rattle.maps.specs.Formulas.{reshaped, broadcasted, transposed, sliced, reversed, padded, dynamicSliced, counted}
 use Rattle.maps.specs.Concatenation.{concatenated, sumAlong}
 use Rattle.reduction.specs.Rows.{sliceShape, keptShape, reduced}
@@ -19,11 +20,6 @@ use Rattle.value_pins.specs.Pin.{Pin, pin, neg, bits, Pinned}
 abbrev positions : List ℕ → List ℕ
 positions s = tab (size s) (λ k. k)
 
--- edge_padding_low as the definition takes it
-abbrev edges : List ℤ → List ℕ
-edges [] = []
-edges (l ∷ low) = slotOf l ∷ edges low
-
 abbrev transposePin : List ℕ → List ℕ → List ℕ → List ℕ → Pin
 transposePin permutation from to is = pin (transposed permutation from to (positions from)) is
 
@@ -32,7 +28,7 @@ slicePin start strides from to is = pin (sliced start strides from to (positions
 
 -- padded with 99
 abbrev padPin : List ℤ → List ℕ → List ℕ → List ℕ → List ℕ → Pin
-padPin low interior from to is = pin (padded (edges low) interior from to (positions from) 99) is
+padPin low interior from to is = pin (padded low interior from to (positions from) 99) is
 
 abbrev dynamicSlicePin : ElementType → List ℕ → List ℕ → List ℕ → List ℕ → Pin
 dynamicSlicePin t starts from to is = pin (dynamicSliced t starts from to (positions from)) is
@@ -61,6 +57,12 @@ shapePins =
     -- an index of the shape, and none in each dimension
     ∷ pin (bits (isWithin (2 ∷ 3 ∷ []) (1 ∷ 2 ∷ []) ∷ isWithin (2 ∷ 3 ∷ []) (2 ∷ 0 ∷ []) ∷ isWithin (2 ∷ 3 ∷ []) (0 ∷ 3 ∷ []) ∷ [])) (1 ∷ 0 ∷ 0 ∷ [])
     ∷ pin (elementAt (positions (2 ∷ 3 ∷ [])) (2 ∷ 3 ∷ []) (1 ∷ 0 ∷ []) 9 ∷ elementAt (positions (2 ∷ 3 ∷ [])) (2 ∷ 3 ∷ []) (0 ∷ 3 ∷ []) 9 ∷ []) (3 ∷ 9 ∷ [])
+    -- attribute numbers and their patterns of 64 bits; the magnitude of a number, and 1 if it is below 0
+    ∷ pin (patternOf (pos 7) ∷ patternOf (negsuc 0) ∷ patternOf (negsuc 9223372036854775807) ∷ []) (7 ∷ 18446744073709551615 ∷ 9223372036854775808 ∷ [])
+    ∷ pin (natAbs (numberOf 7) ∷ natAbs (numberOf 18446744073709551615) ∷ natAbs (numberOf 9223372036854775807) ∷ natAbs (numberOf 9223372036854775808) ∷ []) (7 ∷ 1 ∷ 9223372036854775807 ∷ 9223372036854775808 ∷ [])
+    ∷ pin (bits (ltZ (numberOf 7) (pos 0) ∷ ltZ (numberOf 18446744073709551615) (pos 0) ∷ ltZ (numberOf 9223372036854775807) (pos 0) ∷ ltZ (numberOf 9223372036854775808) (pos 0) ∷ [])) (0 ∷ 1 ∷ 0 ∷ 1 ∷ [])
+    -- "the ceiling of (limit - start) / stride"
+    ∷ pin (ceilDiv 4 2 ∷ ceilDiv 5 2 ∷ ceilDiv 0 3 ∷ ceilDiv 1 3 ∷ []) (2 ∷ 3 ∷ 0 ∷ 1 ∷ [])
     -- reshape keeps the order
     ∷ pin (reshaped (2 ∷ 3 ∷ []) (3 ∷ 1 ∷ 2 ∷ []) (positions (2 ∷ 3 ∷ []))) (0 ∷ 1 ∷ 2 ∷ 3 ∷ 4 ∷ 5 ∷ [])
     -- "transpose: result_index[d] = operand_index[permutation[d]]"

@@ -4,7 +4,7 @@ use mathlib.Core.List.{List, [], _∷_, map}
 use lib.IntN.{ℤ, pos, negsuc, natAbs}
 use lib.Signed.{ltZ}
 use Prim.Native.Nat.{ℕ}
-use Rattle.element.specs.Types.{widthOf, signedOf, boolOf, lowestOf, highestOf, allOf, isValue, slotOf, valueOf, wrapTo}
+use Rattle.element.specs.Types.{widthOf, signedOf, boolOf, lowestOf, highestOf, allOf, isValue, slotFor, valueOf, wrapTo}
 use Rattle.element.specs.declared.ElementType.{ElementType}
 use Rattle.element.specs.declared.ElementType.the-variants.{I1, I8, I16, I32, I64, U8, U16, U32, U64}
 use Rattle.value_pins.specs.Pin.{Pin, pin, neg, bits, Pinned}
@@ -42,7 +42,7 @@ typePins =
     ∷ valuesPin U32 (0 ∷ 4294967295 ∷ 4294967296 ∷ neg 1 ∷ []) (1 ∷ 1 ∷ 0 ∷ 0 ∷ [])
     ∷ valuesPin U64 (0 ∷ 18446744073709551615 ∷ neg 1 ∷ 18446744073709551616 ∷ []) (1 ∷ 1 ∷ 1 ∷ 0 ∷ [])
     -- "an unsigned or boolean value as itself, a signed one modulo 2^64"
-    ∷ pin (slotOf (pos 0) ∷ slotOf (pos 255) ∷ slotOf (negsuc 0) ∷ slotOf (negsuc 127) ∷ []) (0 ∷ 255 ∷ 18446744073709551615 ∷ 18446744073709551488 ∷ [])
+    ∷ pin (slotFor I8 (pos 0) ∷ slotFor U8 (pos 255) ∷ slotFor I8 (negsuc 0) ∷ slotFor I64 (negsuc 127) ∷ []) (0 ∷ 255 ∷ 18446744073709551615 ∷ 18446744073709551488 ∷ [])
     ∷ valuePin I8 (neg 1) (1 ∷ 1 ∷ [])
     ∷ valuePin I8 127 (127 ∷ 0 ∷ [])
     ∷ valuePin I64 (neg 9223372036854775808) (9223372036854775808 ∷ 1 ∷ [])
