@@ -70,6 +70,7 @@ shapePins =
     ∷ transposePin (1 ∷ 2 ∷ 0 ∷ []) (2 ∷ 2 ∷ 3 ∷ []) (2 ∷ 3 ∷ 2 ∷ []) (0 ∷ 6 ∷ 1 ∷ 7 ∷ 2 ∷ 8 ∷ 3 ∷ 9 ∷ 4 ∷ 10 ∷ 5 ∷ 11 ∷ [])
     ∷ transposePin (1 ∷ 0 ∷ []) (2 ∷ 3 ∷ []) (3 ∷ 2 ∷ []) (0 ∷ 3 ∷ 1 ∷ 4 ∷ 2 ∷ 5 ∷ [])
     ∷ transposePin (0 ∷ 2 ∷ 1 ∷ []) (2 ∷ 2 ∷ 2 ∷ []) (2 ∷ 2 ∷ 2 ∷ []) (0 ∷ 2 ∷ 1 ∷ 3 ∷ 4 ∷ 6 ∷ 5 ∷ 7 ∷ [])
+    ∷ transposePin [] [] [] (0 ∷ [])
     -- slice: "operand_index = start_indices + result_index * strides"
     ∷ slicePin (1 ∷ 0 ∷ []) (2 ∷ 3 ∷ []) (4 ∷ 5 ∷ []) (2 ∷ 2 ∷ []) (5 ∷ 8 ∷ 15 ∷ 18 ∷ [])
     ∷ slicePin (0 ∷ 2 ∷ []) (3 ∷ 1 ∷ []) (4 ∷ 5 ∷ []) (2 ∷ 3 ∷ []) (2 ∷ 3 ∷ 4 ∷ 17 ∷ 18 ∷ 19 ∷ [])
@@ -79,6 +80,8 @@ shapePins =
     ∷ padPin (pos 0 ∷ negsuc 1 ∷ []) (0 ∷ 2 ∷ []) (2 ∷ 2 ∷ []) (2 ∷ 4 ∷ []) (99 ∷ 1 ∷ 99 ∷ 99 ∷ 99 ∷ 3 ∷ 99 ∷ 99 ∷ [])
     ∷ padPin (pos 1 ∷ []) (2 ∷ []) (2 ∷ []) (6 ∷ []) (99 ∷ 0 ∷ 99 ∷ 99 ∷ 1 ∷ 99 ∷ [])
     ∷ padPin (negsuc 2 ∷ []) (1 ∷ []) (3 ∷ []) (4 ∷ []) (99 ∷ 2 ∷ 99 ∷ 99 ∷ [])
+    -- a dimension of size 0 has padding only
+    ∷ padPin (pos 2 ∷ []) (1 ∷ []) (0 ∷ []) (2 ∷ []) (99 ∷ 99 ∷ [])
     -- "dynamic_slice: each start, read in its own type, is clamped to 0 .. size - slice size": below, above, and neither
     ∷ dynamicSlicePin I8 (neg 1 ∷ 5 ∷ []) (3 ∷ 4 ∷ []) (2 ∷ 2 ∷ []) (2 ∷ 3 ∷ 6 ∷ 7 ∷ [])
     ∷ dynamicSlicePin I8 (1 ∷ neg 128 ∷ []) (3 ∷ 4 ∷ []) (2 ∷ 2 ∷ []) (4 ∷ 5 ∷ 8 ∷ 9 ∷ [])
