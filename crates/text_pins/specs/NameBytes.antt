@@ -13,13 +13,13 @@ use Rattle.text.specs.declared.names.Name.{Name}
 abbrev nameSample : List ℕ
 nameSample = ascii "%a%ab%a%A@a%b"
 
-abbrev nameAt : ℕ → ℕ → Name
-nameAt at len = record { at = at; len = len }
+abbrev nameFrom : ℕ → ℕ → Name
+nameFrom at len = record { at = at; len = len }
 
 -- %a against each name of the text
 abbrev pub sameNames : List Bool
 sameNames =
-    map (sameName nameSample (nameAt 0 2)) (nameAt 0 2 ∷ nameAt 2 3 ∷ nameAt 5 2 ∷ nameAt 7 2 ∷ nameAt 9 2 ∷ nameAt 11 2 ∷ [])
+    map (sameName nameSample (nameFrom 0 2)) (nameFrom 0 2 ∷ nameFrom 2 3 ∷ nameFrom 5 2 ∷ nameFrom 7 2 ∷ nameFrom 9 2 ∷ nameFrom 11 2 ∷ [])
 
 -- `true` in the text `true truer`: the word itself, less of it, more of it, another word that begins so
 abbrev pub wordsTrue : List Bool
