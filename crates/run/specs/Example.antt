@@ -51,7 +51,7 @@ smallRows (first n x s) = n ∷ []
 abbrev pub numbers : OpSet
 numbers =
     record {
-      SmallOp = SmallOp;
+      Op = SmallOp;
       Value = SmallTensor;
       Stop = ℕ;
       Element = ℕ;
