@@ -81,7 +81,7 @@ fn mark(text: &[u8], at: usize, b: u8, place: usize) -> Reading
     }
 }
 
-// The comma commaBefore item j, or nothing commaBefore the first.
+// The comma before item j, or nothing before the first.
 fn separator(text: &[u8], at: usize, j: usize, place: usize) -> Reading
     ensures { λ r. ⌜ r ≡ readingOf (commaBefore (eqb j 0) (now (text .entry)) at) place ⌝ }
 {

@@ -17,7 +17,7 @@ pub enum Division {
 
 // A quotient or a remainder; none for a zero divisor (01's numbers: `numbersOf`).
 pub enum Divided {
-    SlotHolds(u64),
+    Value(u64),
     ByZero,
 }
 
