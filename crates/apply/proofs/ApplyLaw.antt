@@ -2,12 +2,14 @@
 -- Assumes nothing.
 use mathlib.Core.Path.{_≡_, refl, sym, ap, _∙_, subst}
 use mathlib.Core.List.{List, [], _∷_, map}
-use Prim.Native.Nat.{ℕ, zero, suc, _<_}
+use Prim.Native.Nat.{ℕ, zero, suc, _^_, _<_}
 use native.Mathlib.Nat.{not-suc-le-zero}
 use native.Mathlib.Omega.{arith}
 use lib.Dec.{eqb}
 use borrow.Author.Tests.{ne-eqb}
 use lib.ListN.{length, getD, take}
+use lib.Seq.{getD-take}
+use lib.IntN.{pos}
 use Rattle.run.specs.Run.{Out, gives}
 use mathlib.Core.Bool.{Bool}
 use Rattle.lists.specs.Lists.{tab}
@@ -16,17 +18,22 @@ use Rattle.scalar.specs.declared.Binary.{Binary}
 use Rattle.scalar.specs.declared.Direction.{Direction}
 use Rattle.scalar.specs.declared.Body.{Body}
 use Rattle.shape.specs.Index.{at, size}
-use Rattle.shape.specs.Dims.{dimsOf}
-use Rattle.maps.specs.Formulas.{counted, broadcasted, transposed, sliced, padded, dynamicSliced}
+use Rattle.shape.specs.Dims.{dimsOf, Sized}
+use Rattle.shape.specs.Whole.{numberOf}
+use Rattle.maps.specs.Formulas.{counted, broadcasted, transposed, sliced, reversed, padded, dynamicSliced}
+use Rattle.maps.proofs.AttributeLaw.{dims-le, numbers-at}
+use Rattle.maps.specs.Holds.{IotaHolds}
 use Rattle.reduction.specs.Rows.{reduced}
 use Rattle.elementwise.specs.Elementwise.{Tensor, unaryAt, binaryAt, compareAt, convertAt, selectAt, clampAt}
-use Rattle.ops.specs.declared.Move.the-variants.{BroadcastInDim, Transpose, Slice}
+use Rattle.ops.specs.declared.Move.the-variants.{BroadcastInDim, Transpose, Slice, Reverse}
 use Rattle.ops.specs.declared.Kind.the-variants.{Iota, Elementwise, Pairwise, Compare, Convert, Select, Clamp, Moved, Pad, DynamicSlice, Reduce}
 use Rattle.ops.specs.declared.Move.{Move}
 use Rattle.ops.specs.declared.Kind.{Kind}
+use Rattle.ops.specs.OpAttributes.{natural, naturals}
 use Rattle.ops.specs.Ops.{moved}
+use Rattle.ops.proofs.NaturalLaw.{natural-number, naturals-numbers}
 use Rattle.apply.specs.declared.Task.{Task}
-use Rattle.apply.specs.Apply.{nodeOf, MoveReady, Ready, outcome}
+use Rattle.apply.specs.Apply.{numbersIn, nodeOf, AreNatural, MoveReady, Ready, outcome}
 
 -- a shape has rank 0 where its list of dimensions is empty
 pub single-is : (r : ℕ) (l : List ℕ) → 0 < length l → eqb r 0 ≡ eqb (length (take r l)) 0
@@ -38,8 +45,8 @@ module _ (k : Task) (x : Tensor) where
   pub move-ready : (out : List ℕ) {m m′ : Move} → m ≡ m′ → MoveReady k m x out → MoveReady k m′ x out
   move-ready out {m} {m′} e h = subst (λ (n : Move). MoveReady k n x out) e h
 
-  pub move-is : {m m′ : Move} {new : List ℕ} → m ≡ m′ → new ≡ moved (nodeOf k) m′ x → new ≡ moved (nodeOf k) m x
-  move-is {m} {m′} {new} e h = subst (λ (n : Move). new ≡ moved (nodeOf k) n x) (sym e) h
+  pub move-is : {m m′ : Move} {new : List ℕ} → m ≡ m′ → new ≡ moved (nodeOf (Moved m′) k) m′ x → new ≡ moved (nodeOf (Moved m) k) m x
+  move-is {m} {m′} {new} e h = subst (λ (n : Move). new ≡ moved (nodeOf (Moved n) k) n x) (sym e) h
 
   module _ (y z : Tensor) where
     pub kind-ready : (out : List ℕ) {a b : Kind} → a ≡ b → Ready k a x y z out → Ready k b x y z out
@@ -53,21 +60,30 @@ pub singles : (l : List ℕ) → map (λ s. getD s 0 0) (map (λ s. s ∷ []) l)
 singles [] = refl
 singles (a ∷ l) = ap {B = List ℕ} (λ r. a ∷ r) (singles l)
 
-take-first : (c : ℕ) (l : List ℕ) → c ≡ 1 → at (take c l) 0 ≡ at l 0
-take-first c [] e = rw e
-take-first c (a ∷ l) e = rw e
+-- a number alone is the first of its array
+lone-number : (c : ℕ) (l : List ℕ) → c ≡ 1 → at l 0 < 2 ^ 63 → natural (getD (numbersIn c l) 0 (pos 0)) ≡ at l 0
+lone-number c l e h =
+    ap natural (sym (numbers-at (take c l) 0) ∙ ap numberOf (getD-take c l 0 0 (omega arith))) ∙ natural-number (at l 0) h
+
+-- a formula of an array's numbers is one of its patterns, where none of them is negative
+by-patterns : {A : Type 0} (f : List ℕ → A) (n : ℕ) (l : List ℕ) → AreNatural n l → f (take n l) ≡ f (naturals (numbersIn n l))
+by-patterns f n l a = ap f (sym (naturals-numbers (take n l) a))
 
 pub getD-none : (l : List ℕ) → length l ≡ 0 → 0 ≡ getD l 0 0
 getD-none [] e = refl
 getD-none (a ∷ l) e = absurd (omega arith)
+
+-- iota_dimension is below the rank
+pub iota-small : (k : Task) → Sized (k .to) → IotaHolds (at (k .first) 0) (dimsOf (k .to)) → at (k .first) 0 < 2 ^ 63
+iota-small k s h = omega (arith, h .along, s .rank, dims-le (k .to .rank) (k .to .dims))
 
 -- what a class's function left is what the op gives
 module _ (k : Task) (starts : List ℕ) (x y z : Tensor) {new : List ℕ} where
   made : {v : Tensor} → new ≡ v → _≡_ {A = Out Tensor ℕ} (gives v) (gives new)
   made e = ap {B = Out Tensor ℕ} gives (sym e)
 
-  pub iota-is : k .count ≡ 1 → new ≡ counted (k .element) (at (k .first) 0) (dimsOf (k .to)) → outcome k Iota starts x y z ≡ gives new
-  iota-is c e = made (e ∙ ap (λ (d : ℕ). counted (k .element) d (dimsOf (k .to))) (sym (take-first (k .count) (k .first) c)))
+  pub iota-is : k .count ≡ 1 → at (k .first) 0 < 2 ^ 63 → new ≡ counted (k .element) (at (k .first) 0) (dimsOf (k .to)) → outcome k Iota starts x y z ≡ gives new
+  iota-is c h e = made (e ∙ ap (λ (d : ℕ). counted (k .element) d (dimsOf (k .to))) (sym (lone-number (k .count) (k .first) c h)))
 
   filled : {n : ℕ} (f : ℕ → ℕ) → n ≡ size (dimsOf (k .to)) → new ≡ tab n f → _≡_ {A = Out Tensor ℕ} (gives (tab (size (dimsOf (k .to))) f)) (gives new)
   filled f q e = made (e ∙ ap (λ (m : ℕ). tab m f) q)
@@ -95,29 +111,46 @@ module _ (k : Task) (starts : List ℕ) (x y z : Tensor) {new : List ℕ} where
         (e ∙ ap (λ (d : Bool). tab n (clampAt (k .element) d c x y z)) p
         ∙ ap (λ (d : Bool). tab n (clampAt (k .element) (eqb (length (dimsOf (k .from))) 0) d x y z)) r)
 
-  pub moved-is : (m : Move) → new ≡ moved (nodeOf k) m x → outcome k (Moved m) starts x y z ≡ gives new
+  pub moved-is : (m : Move) → new ≡ moved (nodeOf (Moved m) k) m x → outcome k (Moved m) starts x y z ≡ gives new
   moved-is m e = made e
 
-  pub pad-is : (v : ℕ) → v ≡ getD y 0 0 → k .count ≡ k .from .rank
-      → new ≡ padded (take (k .from .rank) (k .first)) (take (k .from .rank) (k .second)) (dimsOf (k .from)) (dimsOf (k .to)) x v → outcome k Pad starts x y z ≡ gives new
-  pad-is v p c e =
-      made (e ∙ ap (λ (w : ℕ). padded (take (k .from .rank) (k .first)) (take (k .from .rank) (k .second)) (dimsOf (k .from)) (dimsOf (k .to)) x w) p
-      ∙ ap (λ (w : ℕ). padded (take w (k .first)) (take (k .from .rank) (k .second)) (dimsOf (k .from)) (dimsOf (k .to)) x (getD y 0 0)) (sym c))
+  pub pad-is : (v : ℕ) → v ≡ getD y 0 0 → k .count ≡ k .from .rank → AreNatural (k .from .rank) (k .second)
+      → new ≡ padded (numbersIn (k .from .rank) (k .first)) (take (k .from .rank) (k .second)) (dimsOf (k .from)) (dimsOf (k .to)) x v → outcome k Pad starts x y z ≡ gives new
+  pad-is v p c a e =
+      made (e ∙ ap (λ (w : ℕ). padded (numbersIn (k .from .rank) (k .first)) (take (k .from .rank) (k .second)) (dimsOf (k .from)) (dimsOf (k .to)) x w) p
+      ∙ ap (λ (w : ℕ). padded (numbersIn w (k .first)) (take (k .from .rank) (k .second)) (dimsOf (k .from)) (dimsOf (k .to)) x (getD y 0 0)) (sym c)
+      ∙ by-patterns (λ l. padded (numbersIn (k .count) (k .first)) l (dimsOf (k .from)) (dimsOf (k .to)) x (getD y 0 0)) (k .from .rank) (k .second) a)
 
   pub dynamic-is : new ≡ dynamicSliced (k .index) (take (k .from .rank) starts) (dimsOf (k .from)) (dimsOf (k .to)) x → outcome k DynamicSlice starts x y z ≡ gives new
   dynamic-is e = made (e ∙ ap (λ (l : List ℕ). dynamicSliced (k .index) l (dimsOf (k .from)) (dimsOf (k .to)) x) (sym (singles (take (k .from .rank) starts))))
 
-  pub reduce-is : (body : Body) (v : ℕ) → v ≡ getD y 0 0
+  pub reduce-is : (body : Body) (v : ℕ) → v ≡ getD y 0 0 → AreNatural (k .count) (k .first)
       → new ≡ reduced body (k .element) (take (k .count) (k .first)) (dimsOf (k .from)) (dimsOf (k .to)) v x → outcome k (Reduce body) starts x y z ≡ gives new
-  reduce-is body v p e = made (e ∙ ap (λ (w : ℕ). reduced body (k .element) (take (k .count) (k .first)) (dimsOf (k .from)) (dimsOf (k .to)) w x) p)
+  reduce-is body v p a e =
+      made (e ∙ ap (λ (w : ℕ). reduced body (k .element) (take (k .count) (k .first)) (dimsOf (k .from)) (dimsOf (k .to)) w x) p
+      ∙ by-patterns (λ l. reduced body (k .element) l (dimsOf (k .from)) (dimsOf (k .to)) (getD y 0 0) x) (k .count) (k .first) a)
+
+-- reverse names some dimensions
+pub reverse-is : (k : Task) (x new : List ℕ) → AreNatural (k .count) (k .first) → new ≡ reversed (take (k .count) (k .first)) (dimsOf (k .to)) x
+    → new ≡ moved (nodeOf (Moved Reverse) k) Reverse x
+reverse-is k x new a e = e ∙ by-patterns (λ l. reversed l (dimsOf (k .to)) x) (k .count) (k .first) a
 
 -- the moves whose attribute list has a number for each dimension of the operand
-module _ (k : Task) (x new : List ℕ) (c : k .count ≡ k .from .rank) where
-  pub broadcast-is : new ≡ broadcasted (take (k .from .rank) (k .first)) (dimsOf (k .from)) (dimsOf (k .to)) x → new ≡ moved (nodeOf k) BroadcastInDim x
-  broadcast-is e = e ∙ ap (λ (w : ℕ). broadcasted (take w (k .first)) (dimsOf (k .from)) (dimsOf (k .to)) x) (sym c)
+module _ (k : Task) (x new : List ℕ) (c : k .count ≡ k .from .rank) (a : AreNatural (k .count) (k .first)) where
+  pub broadcast-is : new ≡ broadcasted (take (k .from .rank) (k .first)) (dimsOf (k .from)) (dimsOf (k .to)) x → new ≡ moved (nodeOf (Moved BroadcastInDim) k) BroadcastInDim x
+  broadcast-is e =
+      e ∙ ap (λ (w : ℕ). broadcasted (take w (k .first)) (dimsOf (k .from)) (dimsOf (k .to)) x) (sym c)
+      ∙ by-patterns (λ l. broadcasted l (dimsOf (k .from)) (dimsOf (k .to)) x) (k .count) (k .first) a
 
-  pub transpose-is : new ≡ transposed (take (k .from .rank) (k .first)) (dimsOf (k .from)) (dimsOf (k .to)) x → new ≡ moved (nodeOf k) Transpose x
-  transpose-is e = e ∙ ap (λ (w : ℕ). transposed (take w (k .first)) (dimsOf (k .from)) (dimsOf (k .to)) x) (sym c)
+  pub transpose-is : new ≡ transposed (take (k .from .rank) (k .first)) (dimsOf (k .from)) (dimsOf (k .to)) x → new ≡ moved (nodeOf (Moved Transpose) k) Transpose x
+  transpose-is e =
+      e ∙ ap (λ (w : ℕ). transposed (take w (k .first)) (dimsOf (k .from)) (dimsOf (k .to)) x) (sym c)
+      ∙ by-patterns (λ l. transposed l (dimsOf (k .from)) (dimsOf (k .to)) x) (k .count) (k .first) a
 
-  pub slice-is : new ≡ sliced (take (k .from .rank) (k .first)) (take (k .from .rank) (k .second)) (dimsOf (k .from)) (dimsOf (k .to)) x → new ≡ moved (nodeOf k) Slice x
-  slice-is e = e ∙ ap (λ (w : ℕ). sliced (take w (k .first)) (take (k .from .rank) (k .second)) (dimsOf (k .from)) (dimsOf (k .to)) x) (sym c)
+  pub slice-is : AreNatural (k .from .rank) (k .second)
+      → new ≡ sliced (take (k .from .rank) (k .first)) (take (k .from .rank) (k .second)) (dimsOf (k .from)) (dimsOf (k .to)) x
+      → new ≡ moved (nodeOf (Moved Slice) k) Slice x
+  slice-is b e =
+      e ∙ ap (λ (w : ℕ). sliced (take w (k .first)) (take (k .from .rank) (k .second)) (dimsOf (k .from)) (dimsOf (k .to)) x) (sym c)
+      ∙ by-patterns (λ l. sliced l (take (k .from .rank) (k .second)) (dimsOf (k .from)) (dimsOf (k .to)) x) (k .count) (k .first) a
+      ∙ by-patterns (λ l. sliced (naturals (numbersIn (k .count) (k .first))) l (dimsOf (k .from)) (dimsOf (k .to)) x) (k .from .rank) (k .second) b

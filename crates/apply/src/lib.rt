@@ -5,6 +5,7 @@ ghost use lib.Dec.{eqb};
 ghost use Rattle.shape.specs.Dims.{dimsOf};
 ghost use lib.ListN.{length, getD};
 ghost use Rattle.run.specs.Run.{gives};
+ghost use Rattle.ops.specs.declared.Kind.the-variants.{Moved};
 ghost use Rattle.ops.specs.Ops.{moved};
 ghost use Rattle.apply.specs.Apply.{nodeOf, MoveReady, Ready, outcome};
 use element::ElementType;
@@ -37,7 +38,7 @@ fn is_single(s: Shape) -> bool
 
 fn move_op(k: Task, m: Move, x: &[u64], out: &mut [u64])
     requires { ⌜ MoveReady k m (now x) (now out) ⌝ }
-    ensures { λ _. ⌜ now (out .exit) ≡ moved (nodeOf k) m (now (x .entry)) ⌝ }
+    ensures { λ _. ⌜ now (out .exit) ≡ moved (nodeOf (Moved m) k) m (now (x .entry)) ⌝ }
 {
     let from = k.from;
     let to = k.to;

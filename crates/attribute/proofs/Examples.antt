@@ -13,7 +13,7 @@ use Rattle.scan.specs.Quantized.{signEnd, integerEnd, fractionEnd, scientificEn
 use Rattle.scan.specs.TensorText.{elementEnd, typeClose}
 use Rattle.text.specs.Lex.{markToken, nameEnd, nameToken, signToken, quoteToken, plainWord, tensorToken, wordToken, lexeme, tokenAt}
 use Rattle.text.specs.Names.{wordIs}
-use Rattle.types.specs.Numbers.{digitsFrom, magnitudeOf, numberOf, inType, numberIn}
+use Rattle.types.specs.Numbers.{digitsFrom, magnitudeOf, numberOf, isAttributeNumber, patternIn}
 use Rattle.optable.specs.Table.{choiceKinds, choiceForm, choices, choiceKindNames, choiceNames}
 use Rattle.optable.specs.Find.{same, placeIn, findChoiceKind, findChoice}
 use Rattle.attribute.specs.declared.Numbers.{Numbers}
@@ -65,5 +65,5 @@ cases =
     []
 
 examples : T (right cases)
-unfolding cases sample tokenAfter choiceForm wordForm choiceAt formAt patternAt numberAt noNumbers withNumber goesOn numbersFrom numbersAt endsLiteral closeFrom denseAt digitsFrom magnitudeOf numberOf inType numberIn choiceKinds choices choiceKindNames choiceNames same placeIn findChoiceKind findChoice firstWhere isLetter isDigit isSpace isSigil isSign inRun runFrom runEnd startsWith inComment skipFrom skipEnd byteEnd wordEnd digitsEnd sizeNext shapeFrom shapeEnd complexEnd signEnd integerEnd fractionEnd scientificEnd floatEnd colonEnd parameterEnd moreEnd parametersEnd storageEnd quantizedEnd elementEnd typeClose markToken nameEnd nameToken signToken quoteToken plainWord tensorToken wordToken lexeme tokenAt wordIs
+unfolding cases sample tokenAfter choiceForm wordForm choiceAt formAt patternAt numberAt noNumbers withNumber goesOn numbersFrom numbersAt endsLiteral closeFrom denseAt digitsFrom magnitudeOf numberOf isAttributeNumber patternIn choiceKinds choices choiceKindNames choiceNames same placeIn findChoiceKind findChoice firstWhere isLetter isDigit isSpace isSigil isSign inRun runFrom runEnd startsWith inComment skipFrom skipEnd byteEnd wordEnd digitsEnd sizeNext shapeFrom shapeEnd complexEnd signEnd integerEnd fractionEnd scientificEnd floatEnd colonEnd parameterEnd moreEnd parametersEnd storageEnd quantizedEnd elementEnd typeClose markToken nameEnd nameToken signToken quoteToken plainWord tensorToken wordToken lexeme tokenAt wordIs
 examples = tt

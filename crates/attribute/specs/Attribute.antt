@@ -12,8 +12,7 @@ use Rattle.scan.specs.Bytes.{among}
 use Rattle.text.specs.Lex.{tokenAt}
 use Rattle.text.specs.Names.{wordIs}
 use Rattle.text.specs.declared.Token.{Token}
-use Rattle.element.specs.declared.ElementType.the-variants.{I64}
-use Rattle.types.specs.Numbers.{numberOf, numberIn}
+use Rattle.types.specs.Numbers.{numberOf, patternIn}
 use Rattle.optable.specs.Table.{Numbers as NumberList, Number, Dense, choiceForm, noKind}
 use Rattle.optable.specs.Find.{findChoiceKind, findChoice}
 use Rattle.attribute.specs.declared.Numbers.{Numbers}
@@ -52,7 +51,7 @@ formAt text name =
 
 -- the number whose token starts here, as a signed 64-bit pattern; 0 where it does not fit (01, Sizes, 7)
 unfoldable pub patternAt : List ℕ → ℕ → ℕ
-patternAt text start = numberIn I64 (numberOf text start) .bits
+patternAt text start = patternIn (numberOf text start) .bits
 
 -- SingleNumber ::= Number ':' 'i64'
 unfoldable pub numberAt : List ℕ → ℕ → ℕ

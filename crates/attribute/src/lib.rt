@@ -3,7 +3,6 @@ use cursor::Cursor;
 use cursor::after;
 use cursor::past;
 use cursor::token;
-use element::ElementType;
 use limits::Limits;
 use optable::Kinds;
 use optable::choice_form;
@@ -11,7 +10,7 @@ use optable::find_choice;
 use optable::find_choice_kind;
 use text::Token;
 use text::names::is_word;
-use types::numbers::number_in;
+use types::numbers::pattern_in;
 ghost use mathlib.Core.Path.{_≡_};
 ghost use lib.ListN.{length};
 ghost use Rattle.scan.specs.Ascii.{ascii};
@@ -107,7 +106,7 @@ pub fn form_at(text: &[u8], name: usize) -> usize
 fn pattern_at(text: &[u8], start: usize) -> usize
     ensures { λ r. ⌜ r ≡ patternAt (now (text .entry)) start ⌝ }
 {
-    number_in(text, start, ElementType::I64).bits as usize
+    pattern_in(text, start).bits as usize
 }
 
 pub fn number_at(text: &[u8], name: usize) -> usize

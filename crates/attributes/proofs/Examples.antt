@@ -14,7 +14,8 @@ use Rattle.scan.specs.TensorText.{elementEnd, typeClose}
 use Rattle.shape.specs.Dims.{dimsOf}
 use Rattle.text.specs.Lex.{markToken, nameEnd, nameToken, signToken, quoteToken, plainWord, tensorToken, wordToken, lexeme, tokenAt}
 use Rattle.text.specs.Names.{wordIs}
-use Rattle.types.specs.Numbers.{digitsFrom, magnitudeOf, numberOf, inType, numberIn}
+use Rattle.element.specs.Types.{slotFor}
+use Rattle.types.specs.Numbers.{digitsFrom, magnitudeOf, numberOf, inType, numberIn, isAttributeNumber, patternIn}
 use Rattle.types.specs.Tensors.{widthNamed, elementNamed, dimensionsFrom, countOf as «count-of», allFit, sizePassed, typed, foreign, typeAfter, typeOf}
 use Rattle.optable.specs.Table.{attributes, choiceKinds, choices, ops, opNames, opNamed, attributeNames, choiceKindNames, choiceNames, choiceNamed, rowAt, attributeKind, choiceForm, saidAt, choiceKind, edgePaddingLow, dimension, comparisonDirection, value}
 use Rattle.optable.specs.Find.{same, placeIn, findAttribute, findChoiceKind, findChoice, slotIn}
@@ -74,5 +75,5 @@ examples :
     × (map (λ k. listOf (numbersOf sample (opWith (443 ∷ 171 ∷ [])) k)) (edgePaddingLow ∷ dimension ∷ value ∷ []) ≡ (1 ∷ 0 ∷ []) ∷ (18446744073709551614 ∷ []) ∷ [] ∷ [])
     × (choiceOf sample (opWith (60 ∷ 0 ∷ [])) comparisonDirection ≡ choiceNamed "LT")
     × (dimsOf (denseType sample (opWith (309 ∷ [])) value .shape) ≡ 2 ∷ [])
-unfolding sample firstWhere isLetter isDigit isSpace isSigil isSign inRun runFrom runEnd startsWith inComment skipFrom skipEnd byteEnd wordEnd digitsEnd sizeNext shapeFrom shapeEnd complexEnd signEnd integerEnd fractionEnd scientificEnd floatEnd colonEnd parameterEnd moreEnd parametersEnd storageEnd quantizedEnd elementEnd typeClose markToken nameEnd nameToken signToken quoteToken plainWord tensorToken wordToken lexeme tokenAt wordIs digitsFrom magnitudeOf numberOf inType numberIn widthNamed elementNamed dimensionsFrom «count-of» allFit sizePassed typed foreign typeAfter typeOf attributes choiceKinds choices ops opNames attributeNames choiceKindNames choiceNames rowAt attributeKind saidAt choiceKind same placeIn findAttribute findChoiceKind findChoice slotIn tokenAfter choiceForm wordForm choiceAt formAt patternAt numberAt noNumbers withNumber goesOn numbersFrom numbersAt endsLiteral closeFrom denseAt booleanOf literalOf andThen markAt before oneAt itemsAt «lists-at» sameAt denseValue firstFailing everywhere countOf placeOf typeIn attributesOf attributeOf standsAt stands choiceFits denseFits kindFits attributeFits neededAt attributesFit nameOf numbersBy numbersOf choiceOf denseType
+unfolding sample firstWhere isLetter isDigit isSpace isSigil isSign inRun runFrom runEnd startsWith inComment skipFrom skipEnd byteEnd wordEnd digitsEnd sizeNext shapeFrom shapeEnd complexEnd signEnd integerEnd fractionEnd scientificEnd floatEnd colonEnd parameterEnd moreEnd parametersEnd storageEnd quantizedEnd elementEnd typeClose markToken nameEnd nameToken signToken quoteToken plainWord tensorToken wordToken lexeme tokenAt wordIs digitsFrom magnitudeOf numberOf inType numberIn isAttributeNumber patternIn slotFor widthNamed elementNamed dimensionsFrom «count-of» allFit sizePassed typed foreign typeAfter typeOf attributes choiceKinds choices ops opNames attributeNames choiceKindNames choiceNames rowAt attributeKind saidAt choiceKind same placeIn findAttribute findChoiceKind findChoice slotIn tokenAfter choiceForm wordForm choiceAt formAt patternAt numberAt noNumbers withNumber goesOn numbersFrom numbersAt endsLiteral closeFrom denseAt booleanOf literalOf andThen markAt before oneAt itemsAt «lists-at» sameAt denseValue firstFailing everywhere countOf placeOf typeIn attributesOf attributeOf standsAt stands choiceFits denseFits kindFits attributeFits neededAt attributesFit nameOf numbersBy numbersOf choiceOf denseType
 examples = (refl, refl, refl, refl, refl)

@@ -4,9 +4,10 @@ use mathlib.Core.Path.{_≡_, refl}
 use mathlib.Core.List.{List, [], _∷_, _++_, map}
 use Prim.Native.Nat.{ℕ}
 use Prim.Native.String.{String}
+use lib.IntN.{pos, negℤ}
 use Rattle.lists.specs.Lists.{firstWhere}
 use Rattle.element.specs.declared.ElementType.the-variants.{I8}
-use Rattle.element.specs.Types.{wrapTo, valueOf}
+use Rattle.element.specs.Types.{wrapTo, slotFor, valueOf}
 use Rattle.scalar.specs.Ops.{addOf, subtractOf}
 use Rattle.scan.specs.Ascii.{ascii}
 use Rattle.scan.specs.Bytes.{isLetter, isDigit, isSpace, isSigil, isSign, inRun, runFrom, runEnd, startsWith, inComment, skipFrom, skipEnd}
@@ -34,10 +35,10 @@ body op returned =
     ascii "{ ^b(%a: tensor<i8>, %b: tensor<i8>): %c = \"stablehlo." ++ ascii op ++ ascii " : (tensor<i8>, tensor<i8>) -> tensor<i8> \"stablehlo.return\"(" ++ ascii returned ++
     ascii ") : (tensor<i8>) -> () }"
 
--- on 5 and 7: `add` either way round, `subtract` one way and the other way round (-2 is stored as 2^64 - 2), one argument twice, an argument returned
+-- on 5 and 7: `add` either way round, `subtract` one way and the other way round, one argument twice, an argument returned
 examples :
     map (λ t. bodyValue t 0 I8 5 7)
     (body "add\"(%a, %b)" "%c" ∷ body "add\"(%b, %a)" "%c" ∷ body "subtract\"(%a, %b)" "%c" ∷ body "subtract\"(%b, %a)" "%c" ∷ body "add\"(%a, %a)" "%c" ∷ body "add\"(%a, %b)" "%a" ∷ [])
-    ≡ 12 ∷ 12 ∷ 18446744073709551614 ∷ 2 ∷ 10 ∷ 5 ∷ []
-unfolding body namedValue bodyValue addOf subtractOf wrapTo valueOf rowNamed bodyRow placeOf firstWhere nameAt sameAt sameBytes nameBytes sameName ops opNames attributes attributeNames rowAt same placeIn findOp partOf noParts addedTo noted depthAfter partsFrom partsOf partsAt bodyAt readingsOf readingsFrom kindOf tokenKind markKind nameKind wordKind quotedKind wordIs grammar leafKinds matches cell step isLetter isDigit isSpace isSigil isSign inRun runFrom runEnd startsWith inComment skipFrom skipEnd byteEnd wordEnd digitsEnd sizeNext shapeFrom shapeEnd complexEnd signEnd integerEnd fractionEnd scientificEnd floatEnd colonEnd parameterEnd moreEnd parametersEnd storageEnd quantizedEnd elementEnd typeClose markToken nameEnd nameToken signToken quoteToken plainWord tensorToken wordToken lexeme tokenAt
+    ≡ 12 ∷ 12 ∷ slotFor I8 (negℤ (pos 2)) ∷ 2 ∷ 10 ∷ 5 ∷ []
+unfolding body namedValue bodyValue addOf subtractOf wrapTo slotFor valueOf rowNamed bodyRow placeOf firstWhere nameAt sameAt sameBytes nameBytes sameName ops opNames attributes attributeNames rowAt same placeIn findOp partOf noParts addedTo noted depthAfter partsFrom partsOf partsAt bodyAt readingsOf readingsFrom kindOf tokenKind markKind nameKind wordKind quotedKind wordIs grammar leafKinds matches cell step isLetter isDigit isSpace isSigil isSign inRun runFrom runEnd startsWith inComment skipFrom skipEnd byteEnd wordEnd digitsEnd sizeNext shapeFrom shapeEnd complexEnd signEnd integerEnd fractionEnd scientificEnd floatEnd colonEnd parameterEnd moreEnd parametersEnd storageEnd quantizedEnd elementEnd typeClose markToken nameEnd nameToken signToken quoteToken plainWord tensorToken wordToken lexeme tokenAt
 examples = refl

@@ -11,7 +11,7 @@ use lib.ListN.{length, getD, length-append}
 use lib.IntN.{ℤ, pos}
 use Rattle.lists.specs.Lists.{pick, tab}
 use Rattle.dimrules.specs.Whole.{eqZ}
-use Rattle.dimrules.specs.Count.{countBelow}
+use Rattle.shape.specs.Place.{countBelow}
 use Rattle.checks.specs.Check.{is}
 use Rattle.checks.specs.Formula.{_!_, memberOf, axes, leaving}
 use Rattle.checks.proofs.MeaningLaw.{eqZ-true, true-eqZ}

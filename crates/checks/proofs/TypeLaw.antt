@@ -14,14 +14,14 @@ use Rattle.element.specs.declared.ElementType.{ElementType}
 use Rattle.element.specs.declared.ElementType.the-variants.{I1, I8, I16, I32, I64, U8, U16, U32, U64}
 use Rattle.dimrules.specs.Count.{everywhere}
 use Rattle.dimrules.specs.Dims.{dim, dimTest}
-use Rattle.dimrules.specs.Types.{elementCode, sameElement, sameShape, shapesOf}
+use Rattle.dimrules.specs.Types.{elementCode, sameElement, sameShape, sameType, shapesOf}
 use Rattle.dimrules.specs.declared.TensorType.{TensorType}
 use Rattle.dimrules.specs.declared.DimTest.the-variants.{Same}
 use Rattle.dimrules.proofs.CountLaw.{holds-at}
 use Rattle.checks.specs.Check.{Term, is, missing, Equal, fact, checkHolds}
-use Rattle.checks.specs.Formula.{shape, rank, entries, _[=]_, sameElements}
+use Rattle.checks.specs.Formula.{shape, rank, entries, _and_, _[=]_, sameElements, sameTypes}
 use Rattle.checks.specs.Meaning.{Compares}
-use Rattle.checks.proofs.CheckLaw.{and-true, same-tests, holds-once, everywhere-all}
+use Rattle.checks.proofs.CheckLaw.{and-true, same-tests, holds-and, holds-once, everywhere-all}
 use Rattle.checks.proofs.ReadingLaw.{lists-true, true-lists}
 
 -- ---- element types
@@ -90,6 +90,12 @@ shapes-same x y =
   where
     same : ℕ → Bool
     same = dimTest Same (shapesOf x y 0)
+
+-- type(x) = type(y)
+pub types-same : (x y : TensorType) → checkHolds (sameTypes x y) ≡ sameType x y
+unfolding sameType
+types-same x y =
+    holds-and (sameElements x y) (entries (shape x) [=] entries (shape y)) ∙ rw (holds-once (fact (sameElement x y)), shapes-same x y) refl
 
 -- ---- an equation with a number that a formula gives
 

@@ -10,7 +10,7 @@ use lib.Signed.{leZ, ltZ}
 use Rattle.lists.specs.Lists.{pick, tab}
 use Rattle.dimrules.specs.Whole.{eqZ, numberOf, ceilDiv}
 use Rattle.dimrules.specs.Dims.{num, dim}
-use Rattle.dimrules.specs.Types.{sameElement, sameType}
+use Rattle.dimrules.specs.Types.{sameElement}
 use Rattle.dimrules.specs.declared.TensorType.{TensorType}
 use Rattle.dimrules.specs.declared.Numbers.{Numbers}
 use Rattle.checks.specs.Check.{Term, is, missing, Relation, Equal, Less, AtMost, Test, compare, fact, Check, checkHolds}
@@ -170,9 +170,9 @@ whole c = fact (checkHolds c)
 abbrev pub sameElements : TensorType → TensorType → Check
 sameElements x y = once (fact (sameElement x y))
 
--- type(x) = type(y)
+-- type(x) = type(y): one element type and one shape
 abbrev pub sameTypes : TensorType → TensorType → Check
-sameTypes x y = once (fact (sameType x y))
+sameTypes x y = sameElements x y and (entries (shape x) [=] entries (shape y))
 
 -- the number exists
 abbrev pub exists : Term → Check

@@ -17,7 +17,6 @@ use Rattle.dimrules.specs.Whole.{eqZ}
 use Rattle.dimrules.specs.Dims.{dim}
 use Rattle.dimrules.specs.Types.{typeAt, sameElement, sumOfDims}
 use Rattle.dimrules.specs.declared.TensorType.{TensorType}
-use Rattle.rules.proofs.FactLaw.{same-element}
 use Rattle.checks.specs.Check.{Term, is, Equal, Less, AtMost, Test, fact, Check, checkHolds, brokenNumber}
 use Rattle.checks.specs.Formula.{shape, rank, _!_, _‼_, terms, many, nat, entries, _and_, each, whole, exists, _[=]_, _[<]_}
 use Rattle.checks.specs.Meaning.{Compares}
@@ -25,7 +24,7 @@ use Rattle.checks.proofs.CheckLaw.{each-all, all-each}
 use Rattle.checks.proofs.MeaningLaw.{eqZ-true, true-eqZ, related, unrelated, compared-true, true-compared, and-true-both, both-and-true}
 use Rattle.checks.proofs.ReadingLaw.{at-past, shape-at, shape-row-true, true-shape-row, place-of}
 use Rattle.checks.proofs.NumberLaw.{all-hold, none-broken}
-use Rattle.checks.proofs.TypeLaw.{elements-true, true-elements, shape-long}
+use Rattle.checks.proofs.TypeLaw.{same-element, elements-true, true-elements, shape-long}
 use Rattle.op_checks.specs.OpChecks.{concatenateChecks, putAt, sumDims}
 use Rattle.constraint_facts.specs.OpFacts.{dimOf, IsIndex, AlikeExcept, ConcatenateFacts}
 use Rattle.constraint_facts.proofs.WordLaw.{element-test, below-same, index-true, true-index}

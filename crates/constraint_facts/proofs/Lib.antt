@@ -1,4 +1,5 @@
 pub mod WordLaw
+pub mod CeilLaw
 pub mod TypeFactLaw
 pub mod AxisFactLaw
 pub mod SliceFactLaw

@@ -2,7 +2,7 @@
 -- Assumes nothing.
 use mathlib.Core.Path.{_≡_, refl, sym, ap, _∙_, subst}
 use mathlib.Core.List.{List}
-use mathlib.Core.Bool.{true, false}
+use mathlib.Core.Bool.{true, false, true≢false}
 use Prim.Native.Nat.{ℕ, _<_}
 use lib.ListN.{length}
 use lib.IntN.{ℤ, pos}
@@ -12,18 +12,18 @@ use Rattle.checks.specs.Formula.{shape, rank, _!_, _‼_, dims, many, nat, entr
 use Rattle.checks.specs.Meaning.{Compares}
 use Rattle.checks.proofs.MeaningLaw.{and-true-both, both-and-true}
 use Rattle.checks.proofs.ReadingLaw.{shape-at, nats-true, true-nats, shape-row-true, true-shape-row, unique-true, true-unique}
-use Rattle.checks.proofs.AxesLaw.{leaving-long, left-less, leaving-at, leaving-from}
+use Rattle.checks.proofs.AxesLaw.{among-none, among-some, leaving-long, left-less, leaving-at, leaving-from}
 use Rattle.checks.proofs.NumberLaw.{all-hold, none-broken}
 use Rattle.checks.proofs.TypeLaw.{elements-true, true-elements}
 use Rattle.op_checks.specs.OpChecks.{reduceChecks}
-use Rattle.constraint_facts.specs.OpFacts.{dimOf, stayBelow, ReduceFacts}
+use Rattle.constraint_facts.specs.OpFacts.{dimOf, NotIn, stayBelow, ReduceFacts}
 use Rattle.constraint_facts.proofs.WordLaw.{indexes-true, true-indexes, below-same}
 
 -- ---- (C7) the dimensions that stay
 
 module _ (x : TensorType) (l : List ℤ) (r : TensorType) where
   abbrev Stay : Type 0
-  Stay = (rank r ≡ stayBelow l (rank x)) × ((d : ℕ) → d < rank x → memberOf (pos d) l ≡ false → dimOf r (stayBelow l d) ≡ dimOf x d)
+  Stay = (rank r ≡ stayBelow l (rank x)) × ((d : ℕ) → d < rank x → NotIn d l → dimOf r (stayBelow l d) ≡ dimOf x d)
 
   abbrev left : List ℤ
   left = leaving (axes (rank x)) l
@@ -36,7 +36,8 @@ module _ (x : TensorType) (l : List ℤ) (r : TensorType) where
   stay-true e =
       let w = shape-row-true r (length left) (λ j. shape x ‼ (left ! j)) e in (
         w .0 ∙ leaving-long l (rank x),
-        λ d k q.
+        λ d k n.
+            let q : memberOf (pos d) l ≡ false = among-none (pos d) l n in
             let i : stayBelow l d < length left = below-same (stayBelow l d) (sym (leaving-long l (rank x))) (left-less l (rank x) d k q) in
             subst (λ (n : Term). Compares (is (dimOf r (stayBelow l d))) Equal n) (stay-at d (stayBelow l d) k q refl) (w .1 (stayBelow l d) i),
       )
@@ -46,7 +47,7 @@ module _ (x : TensorType) (l : List ℤ) (r : TensorType) where
       true-shape-row r (length left) (λ j. shape x ‼ (left ! j)) (f .0 ∙ sym (leaving-long l (rank x))) (λ j i.
       let z = leaving-from l (rank x) j (below-same j (leaving-long l (rank x)) i) in
       subst (λ (n : Term). Compares (is (dimOf r j)) Equal n) (sym (stay-at (z .0) j (z .1) (z .2) (z .3)))
-      (ap (dimOf r) (sym (z .3)) ∙ f .1 (z .0) (z .1) (z .2)))
+      (ap (dimOf r) (sym (z .3)) ∙ f .1 (z .0) (z .1) (λ i h q. true≢false (sym (among-some (pos (z .0)) l i h q) ∙ z .2))))
 
 -- ---- (C6) one argument of the body
 

@@ -20,6 +20,7 @@ use Rattle.checks.proofs.NumberLaw.{all-hold, none-broken}
 use Rattle.checks.proofs.TypeLaw.{elements-true, true-elements, shape-long, shape-is, equal-is, is-equal, is-same}
 use Rattle.op_checks.specs.OpChecks.{sliceChecks, padChecks, dynamicSliceChecks}
 use Rattle.constraint_facts.specs.OpFacts.{_at_, dimOf, SliceFacts, PadFacts, DynamicSliceFacts}
+use Rattle.constraint_facts.proofs.CeilLaw.{ceil-true, true-ceil}
 use Rattle.constraint_facts.proofs.WordLaw.{type-test, below-same, two-true, true-two, three-true, true-three}
 
 -- ---- a list within a shape
@@ -77,7 +78,7 @@ module _ (x : TensorType) (start limit strides : List ℤ) (r : TensorType) wher
         c2 = n;
         c3 = ordered-true s l (h .1 .1 .0);
         c4 = λ d k. int-list-true Less (pos 0) strides (h .1 .1 .1 .0) d (below-same d (sym t) k);
-        c5 = (w .0, λ d k. sym (ceiling-at s l t d k) ∙ equal-is (dimOf r d) (sliceFormula d) (w .1 d k));
+        c5 = (w .0, λ d k. ceil-true (limit at d -ℤ start at d) (strides at d) (dimOf r d) (sym (ceiling-at s l t d k) ∙ equal-is (dimOf r d) (sliceFormula d) (w .1 d k)));
       }
 
   pub facts-slice : SliceFacts x start limit strides r → brokenNumber (sliceChecks x start limit strides r) ≡ 0
@@ -95,7 +96,7 @@ module _ (x : TensorType) (start limit strides : List ℤ) (r : TensorType) wher
             (
               true-int-list Less (pos 0) strides (λ d i. f .c4 d (below-same d t i)),
               (
-                true-shape-row r (rank x) sliceFormula (f .c5 .0) (λ d k. is-equal (dimOf r d) (sliceFormula d) (ceiling-at s l t d k ∙ f .c5 .1 d k)),
+                true-shape-row r (rank x) sliceFormula (f .c5 .0) (λ d k. is-equal (dimOf r d) (sliceFormula d) (ceiling-at s l t d k ∙ true-ceil (limit at d -ℤ start at d) (strides at d) (dimOf r d) (f .c5 .1 d k))),
                 tt,
               ),
             ),

@@ -12,13 +12,12 @@ use lib.Signed.{_≤ℤ_, _<ℤ_}
 use Rattle.element.specs.Types.{signedOf}
 use Rattle.shape.specs.Index.{size}
 use Rattle.shape.specs.Dims.{dimsOf}
-use Rattle.dimrules.specs.Count.{countBelow}
+use Rattle.shape.specs.Place.{countBelow}
 use Rattle.dimrules.specs.Dims.{dim}
 use Rattle.dimrules.specs.Types.{typeAt, sumOfDims}
 use Rattle.dimrules.specs.declared.TensorType.{TensorType}
 use Rattle.rules.specs.Facts.{AlikeShapes, AlikeTypes}
-use Rattle.checks.specs.Check.{is}
-use Rattle.checks.specs.Formula.{rank, ceilZ, memberOf}
+use Rattle.checks.specs.Formula.{rank, memberOf}
 use Rattle.op_checks.specs.OpChecks.{SIGNED, UNSIGNED, absent}
 
 -- ---- words
@@ -48,10 +47,20 @@ AllDiffer l = (d e : ℕ) → d < e → e < length l → l at d ≡ l at e → �
 abbrev pub IsDim : ℤ → TensorType → ℤ → Type 0
 IsDim a x z = (p : ℕ) × (z ≡ pos p) × (p < rank x) × (a ≡ dimOf x p)
 
+-- c = ceil(a / b), of a divisor above 0: the lowest whole number whose product with b is at least a
+pub record IsCeil (a b c : ℤ) : Type 0 where
+  pub divisor : pos 0 <ℤ b
+  pub reaches : a ≤ℤ (c *ℤ b)
+  pub lowest : (e : ℤ) → a ≤ℤ (e *ℤ b) → c ≤ℤ e
+
 -- shape(x) = shape(y) except for dim(.., k)
 pub record AlikeExcept (k : ℤ) (x y : TensorType) : Type 0 where
   pub ranks : rank x ≡ rank y
   pub others : (d : ℕ) → d < rank x → (pos d ≡ k → ⊥) → dimOf x d ≡ dimOf y d
+
+-- d not in l
+abbrev pub NotIn : ℕ → List ℤ → Type 0
+NotIn d l = (i : ℕ) → i < length l → l at i ≡ pos d → ⊥
 
 -- how many dimensions below d are not in the list: the place of d among those that stay
 abbrev pub stayBelow : List ℤ → ℕ → ℕ
@@ -153,7 +162,7 @@ pub record SliceFacts (operand : TensorType) (start limit strides : List ℤ) (r
   -- (C4) 0 < strides
   pub c4 : (d : ℕ) → d < rank operand → pos 0 <ℤ strides at d
   -- (C5) shape(result) = ceil((limit_indices - start_indices) / strides)
-  pub c5 : (rank result ≡ rank operand) × ((d : ℕ) → d < rank operand → ceilZ (limit at d -ℤ start at d) (strides at d) ≡ is (dimOf result d))
+  pub c5 : (rank result ≡ rank operand) × ((d : ℕ) → d < rank operand → IsCeil (limit at d -ℤ start at d) (strides at d) (dimOf result d))
 
 pub record PadFacts (operand paddingValue : TensorType) (low high interior : List ℤ) (result : TensorType) : Type 0 where
   -- (C1) element_type(operand) = element_type(padding_value) = element_type(result)
@@ -205,7 +214,7 @@ pub record ReduceFacts (input initValue left right : TensorType) (dimensions : L
   -- (C6) body has type (tensor<E0>, tensor<E0>) -> (tensor<E0>), where E0 is element_type(inputs[0]) (01: "share one element type")
   pub c6 : ((input .element ≡ left .element) × (rank left ≡ 0)) × ((input .element ≡ right .element) × (rank right ≡ 0))
   -- (C7) shape(results...) = shape(inputs...) except that the dimension sizes of inputs... corresponding to dimensions are not included
-  pub c7 : (rank result ≡ stayBelow dimensions (rank input)) × ((d : ℕ) → d < rank input → memberOf (pos d) dimensions ≡ false →
+  pub c7 : (rank result ≡ stayBelow dimensions (rank input)) × ((d : ℕ) → d < rank input → NotIn d dimensions →
       dimOf result (stayBelow dimensions d) ≡ dimOf input d)
   -- (C8) element_type(results[i]) = Ei for all i in [0,N)
   pub c8 : input .element ≡ result .element

@@ -16,9 +16,8 @@ use Rattle.scan.specs.Ascii.{ascii}
 use Rattle.text.specs.Lex.{tokenAt}
 use Rattle.text.specs.Names.{wordIs}
 use Rattle.text.specs.declared.Token.{Token}
-use Rattle.element.specs.Types.{slotOf}
-use Rattle.element.specs.declared.ElementType.the-variants.{I64}
-use Rattle.types.specs.Numbers.{numberOf, inType, numberIn, fitting, unfit}
+use Rattle.shape.specs.Whole.{patternOf}
+use Rattle.types.specs.Numbers.{numberOf, isAttributeNumber, patternIn, fitting, unfit}
 use Rattle.types.specs.declared.numbers.Number.{Number as NumberRead}
 use Rattle.grammar.specs.Symbols.{NUMBER, AttributeName, SingleNumber, equals, dialect, array, dense, Value, among, matches, leafKinds}
 use Rattle.grammar.specs.Leaves.{StandFor}
@@ -73,12 +72,12 @@ by-form false false true false true form f e = absurd (omega arith)
 by-form false false true false false form f e = absurd (omega arith)
 by-form false false false a d form f e = absurd (omega arith)
 
-fits-type : (z : ℤ) → numberIn I64 z .fits ≡ true → inType I64 z ≡ true
-unfolding numberIn
-fits-type z e = go (inType I64 z) e
+fits-range : (z : ℤ) → patternIn z .fits ≡ true → isAttributeNumber z ≡ true
+unfolding patternIn
+fits-range z e = go (isAttributeNumber z) e
   where
     picked : Bool → NumberRead
-    picked b = pick b (fitting (slotOf z)) unfit
+    picked b = pick b (fitting (patternOf z)) unfit
 
     go : (b : Bool) → picked b .fits ≡ true → b ≡ true
     go true e = refl
@@ -87,12 +86,12 @@ fits-type z e = go (inType I64 z) e
 module _ (text : List ℕ) where
   -- the number whose token starts here lies in the signed 64-bit range
   abbrev pub Fits : ℕ → Type 0
-  Fits start = inType I64 (numberOf text start) ≡ true
+  Fits start = isAttributeNumber (numberOf text start) ≡ true
 
   -- so it is the one that is read
-  pub pattern-written : (start : ℕ) → Fits start → patternAt text start ≡ slotOf (numberOf text start)
-  unfolding patternAt numberIn
-  pattern-written start e = ap (λ (b : Bool). pick {A = NumberRead} b (fitting (slotOf (numberOf text start))) unfit .bits) e
+  pub pattern-written : (start : ℕ) → Fits start → patternAt text start ≡ patternOf (numberOf text start)
+  unfolding patternAt patternIn
+  pattern-written start e = ap (λ (b : Bool). pick {A = NumberRead} b (fitting (patternOf (numberOf text start))) unfit .bits) e
 
   -- a value of the form of a number begins with one
   form-number : (name : ℕ) → formAt text name ≡ Number → kindOf text (tokenAfter 2 text name) ≡ NUMBER
@@ -174,8 +173,8 @@ module _ (text : List ℕ) where
   unfolding passes largeNumber
   in-range s x g w =
       let a = passes-none text s x (g .sized) in
-      let k : not (numberIn I64 (numberOf text (x .token .start)) .fits) ≡ false = rw w at (a .1 .1 .1 .1 .1 .1 .0) in
-      fits-type (numberOf text (x .token .start)) (not-false _ k)
+      let k : not (patternIn (numberOf text (x .token .start)) .fits) ≡ false = rw w at (a .1 .1 .1 .1 .1 .1 .0) in
+      fits-range (numberOf text (x .token .start)) (not-false _ k)
 
   each-in-range : (s : Tally) (xs : List Reading) → Each text s xs → All InRange xs
   each-in-range s [] e = tt
@@ -202,6 +201,6 @@ module _ (text : List ℕ) (read : textRefusal text .number ≡ 0) where
 
   -- and is the number that is read
   pub number-written : (k : ℕ) → k + 1 < programOf text .count → (j : ℕ) → j < countOf (op k) attributeName → j < 8 → formAt text (placeOf (op k) attributeName j) ≡ Number →
-      numberAt text (placeOf (op k) attributeName j) ≡ slotOf (numberOf text (valueAt text (placeOf (op k) attributeName j) .start))
+      numberAt text (placeOf (op k) attributeName j) ≡ patternOf (numberOf text (valueAt text (placeOf (op k) attributeName j) .start))
   unfolding numberAt
   number-written k h j l m form = pattern-written text (valueAt text (placeOf (op k) attributeName j) .start) (number-in-range k h j l m form)

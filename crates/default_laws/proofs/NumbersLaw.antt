@@ -15,7 +15,7 @@ use Rattle.scan.specs.Ascii.{ascii}
 use Rattle.text.specs.Lex.{tokenAt}
 use Rattle.text.specs.Names.{wordIs}
 use Rattle.text.specs.declared.Token.{Token}
-use Rattle.element.specs.Types.{slotOf}
+use Rattle.shape.specs.Whole.{patternOf}
 use Rattle.types.specs.Numbers.{numberOf}
 use Rattle.grammar.specs.Symbols.{END, NUMBER, FUNC, DIALECT, TYPE, ARROW, OTHER, ARRAY, LPAREN, RPAREN, LBRACE, RBRACE, LANGLE, RANGLE, LBRACKET, RBRACKET, COMMA, COLON, EQUALS, AttributeName, SingleNumber, ListNumber, langle, rangle, comma, colon, equals, dialect, array, dense, i64, Value, Numbers as NumberItems, MoreNumbers, among, matches, leafKinds}
 use Rattle.grammar.specs.Grammar.{Production, grammar}
@@ -274,7 +274,7 @@ none-left vs n rest e = ap (λ (n : ℕ). filled vs n) e ∙ ap (λ (l : List �
 module _ (text : List ℕ) where
   -- a number as it is written, as a 64-bit pattern
   abbrev pub written : ℕ → ℕ
-  written start = slotOf (numberOf text start)
+  written start = patternOf (numberOf text start)
 
   goes-on : (mark : ℕ) (t : Token) → among (COMMA ∷ COLON ∷ []) mark ≡ true → kindOf text t ≡ mark → goesOn (t .kind) ≡ true
   unfolding goesOn

@@ -1,16 +1,17 @@
 -- What stands for the type of an operand past the arity, for the arguments' types of an op without a body, for the dense type, the choice and the numbers of
 -- attributes that a row does not have decides nothing: refusals 7 and 8 are the same for any other types and numbers there.
 -- Assumes nothing.
-use mathlib.Core.Path.{_≡_, refl, sym, ap, _∙_}
+use mathlib.Core.Path.{_≡_, refl}
 use mathlib.Core.List.{List}
 use mathlib.Core.Bool.{Bool, true, _&&_}
-use Prim.Native.Nat.{ℕ, zero, suc, _+_, _-_, _<_, _≤_}
+use Prim.Native.Nat.{ℕ, _+_, _-_, _<_, _≤_}
 use native.Mathlib.Omega.{arith}
 use lib.Dec.{ltb, leb}
 use lib.ListN.{length}
 use borrow.Author.Tests.{ltb-true, leb-true}
 use Rattle.lists.specs.Lists.{allBelow, firstWhere}
 use Rattle.lists.proofs.TestLaw.{both-true}
+use Rattle.lists.proofs.TabLaw.{tab-cong}
 use Rattle.lists.proofs.SearchLaw.{all-at}
 use Rattle.optable.specs.Names.{same, placeIn}
 use Rattle.optable.specs.Table.{attributes, attributeNames, value, compareType, ops, rowAt}
@@ -18,16 +19,11 @@ use Rattle.optable.specs.Find.{slotIn}
 use Rattle.optable.specs.declared.Row.{Row}
 use Rattle.optable.specs.declared.Rule.{Rule}
 use Rattle.optable.specs.declared.Rule.the-variants.{SameTypes, Abs, Broadcast, Clamp, Compare, Concatenate, Constant, Convert, DynamicSlice, Iota, Pad, Reduce, Reshape, Reverse, Select, Slice, Transpose}
-use Rattle.dimrules.specs.Count.{firstFailing, everywhere}
-use Rattle.dimrules.specs.Dims.{dim, num}
-use Rattle.dimrules.specs.Types.{typeAt, allTypes, sumOfDims}
-use Rattle.dimrules.specs.declared.TensorType.{TensorType}
-use Rattle.dimrules.specs.declared.TypeTest.the-variants.{SameElement, SameType, SameButOne}
-use Rattle.rules.specs.Broken.{firstBroken}
-use Rattle.rules.specs.Constraints.{sameTypesConstraints, concatenateConstraints, dynamicSliceConstraints}
-use Rattle.opcheck.specs.Judged.{takenAt, takenByTables, constraintsBy, brokenBy}
+use Rattle.dimrules.specs.Count.{everywhere}
+use Rattle.dimrules.specs.Types.{typeAt}
+use Rattle.op_checks.specs.OpChecks.{typesFrom}
+use Rattle.opcheck.specs.Judged.{takenAt, takenByTables, checksBy, brokenBy}
 use Rattle.opcheck.specs.declared.Operation.{Operation}
-use Rattle.reading_laws.proofs.HeldLaw.{sum-same}
 use Rattle.optable.specs.Takes.{resultTaken}
 use Rattle.program.specs.declared.Parts.{Parts}
 use Rattle.places.specs.Places.{opName, placeOf}
@@ -36,7 +32,7 @@ use Rattle.bodies.specs.Bodies.{rowNamed}
 use Rattle.typing.specs.Typing.{rowOf, operationOf, inTable, typedOp}
 use Rattle.nodes.proofs.TypedLaw.{typed-parts}
 use Rattle.default_laws.specs.Unread.{AsFar}
-use Rattle.default_laws.proofs.EverywhereLaw.{everywhere-same, all-types-same}
+use Rattle.default_laws.proofs.EverywhereLaw.{everywhere-same}
 
 -- ---- what a list of constraints names
 
@@ -110,62 +106,26 @@ all-have = refl
 
 -- ---- the constraints
 
--- concatenate without operands breaks C3, whatever the type of a first operand
-none-given : (types : List TensorType) (d : ℕ) (r : TensorType) → firstBroken (concatenateConstraints types 0 d r) ≡ 3
-unfolding concatenateConstraints allTypes everywhere firstFailing firstWhere
-none-given types d r = refl
-
-some-given : (n : ℕ) (types others : List TensorType) (d : ℕ) (r : TensorType) → ((j : ℕ) → j < suc n → typeAt types j ≡ typeAt others j) →
-    concatenateConstraints types (suc n) d r ≡ concatenateConstraints others (suc n) d r
-unfolding concatenateConstraints sumOfDims
-some-given n types others d r f =
-    let x = f 0 (omega arith) in
-    let at : (j : ℕ) → j < suc n → typeAt types (0 + j) ≡ typeAt others (0 + j) = λ j l. let z : 0 + j ≡ j = omega arith in rw z (f j l) in
-    let elements = all-types-same SameElement 0 (suc n) 0 (typeAt types 0) (typeAt others 0) types others (λ l. x) at in
-    let shapes = all-types-same SameButOne d (suc n) 0 (typeAt types 0) (typeAt others 0) types others (λ l. x) at in
-    let total = sum-same (suc n) (λ j. dim (typeAt types j .shape) d) (λ j. dim (typeAt others j .shape) d) (λ j l. ap (λ (t : TensorType). dim (t .shape) d) (f j l)) in
-    rw (elements, shapes, total, x)
-
-concatenate-same : (n : ℕ) (types others : List TensorType) (d : ℕ) (r : TensorType) → ((j : ℕ) → j < n → typeAt types j ≡ typeAt others j) →
-    firstBroken (concatenateConstraints types n d r) ≡ firstBroken (concatenateConstraints others n d r)
-concatenate-same zero types others d r f = none-given types d r ∙ sym (none-given others d r)
-concatenate-same (suc n) types others d r f = ap firstBroken (some-given n types others d r f)
-
 module _ (row : Row) (o q : Operation) (s : AsFar row o q) where
   named : (j : ℕ) → j < o .arity → typeAt (o .types) j ≡ typeAt (q .types) j
   named j l = s .types j (omega arith)
 
-  dynamic-slice-same : 0 < o .arity → 0 < row .needed → constraintsBy DynamicSlice o ≡ constraintsBy DynamicSlice q
-  unfolding constraintsBy dynamicSliceConstraints
-  dynamic-slice-same h g =
-      let x = named 0 h in
-      let r = s .result in
-      let a = s .a g in
-      let n = s .arity in
-      let t : allTypes SameType 0 (typeAt (o .types) 1) (o .types) 1 (o .arity - 1) ≡ allTypes SameType 0 (typeAt (q .types) 1) (q .types) 1 (o .arity - 1) =
-      all-types-same SameType 0 (o .arity - 1) 1 (typeAt (o .types) 1) (typeAt (q .types) 1) (o .types) (q .types) (λ l. named 1 (omega arith)) (λ j l. named (1 + j) (omega arith)) in
-      rw (t, x, r, a, n)
-
-  same-types-same : constraintsBy SameTypes o ≡ constraintsBy SameTypes q
-  unfolding constraintsBy sameTypesConstraints
-  same-types-same =
-      let t = all-types-same SameType 0 (o .arity) 0 (o .result) (q .result) (o .types) (q .types) (λ l. s .result) (λ j l. let z : 0 + j ≡ j = omega arith in rw z (named j l)) in
-      let n = s .arity in
-      rw (t, n)
+  -- the types of n operands from k on
+  types-same : (k n : ℕ) → k + n ≤ o .arity → typesFrom (o .types) k n ≡ typesFrom (q .types) k n
+  types-same k n h = tab-cong n (λ j. typeAt (o .types) (k + j)) (λ j. typeAt (q .types) (k + j)) (λ j l. named (k + j) (omega arith))
 
   by-rule : (rule : Rule) → operandsNamed rule ≤ o .arity → numbersNamed rule ≤ row .needed → elseNamed rule row ≡ true → brokenBy rule o ≡ brokenBy rule q
-  unfolding brokenBy constraintsBy
-  by-rule SameTypes h g e = ap firstBroken same-types-same
+  unfolding brokenBy checksBy
+  by-rule SameTypes h g e = let t = types-same 0 (o .arity) (omega arith) in let n = s .arity in let r = s .result in rw (t, n, r)
   by-rule Abs h g e = let x = named 0 (omega arith) in let r = s .result in rw (x, r)
   by-rule Broadcast h g e = let x = named 0 (omega arith) in let a = s .a (omega arith) in let r = s .result in rw (x, a, r)
   by-rule Clamp h g e = let x = named 0 (omega arith) in let y = named 1 (omega arith) in let z = named 2 (omega arith) in let r = s .result in rw (x, y, z, r)
   by-rule Compare h g e = let x = named 0 (omega arith) in let y = named 1 (omega arith) in let c = s .choice (ltb-true _ 3 e) in let r = s .result in rw (x, y, c, r)
-  by-rule Concatenate h g e =
-      let n = s .arity in let a = s .a (omega arith) in let r = s .result in
-      concatenate-same (o .arity) (o .types) (q .types) (num (o .a) 0) (o .result) named ∙ rw (n, a, r)
+  by-rule Concatenate h g e = let t = types-same 0 (o .arity) (omega arith) in let n = s .arity in let a = s .a (omega arith) in let r = s .result in rw (t, n, a, r)
   by-rule Constant h g e = let l = ltb-true (slotIn row value) 3 e in let v = s .value (omega arith) in let r = s .result in rw (v, r)
   by-rule Convert h g e = let x = named 0 (omega arith) in let r = s .result in rw (x, r)
-  by-rule DynamicSlice h g e = ap firstBroken (dynamic-slice-same h g)
+  by-rule DynamicSlice h g e =
+      let x = named 0 (omega arith) in let t = types-same 1 (o .arity - 1) (omega arith) in let n = s .arity in let a = s .a (omega arith) in let r = s .result in rw (x, t, n, a, r)
   by-rule Iota h g e = let a = s .a (omega arith) in let r = s .result in rw (a, r)
   by-rule Pad h g e =
       let x = named 0 (omega arith) in let y = named 1 (omega arith) in let a = s .a (omega arith) in let b = s .b (omega arith) in let c = s .c (omega arith) in let r = s .result in rw (x, y, a, b, c, r)

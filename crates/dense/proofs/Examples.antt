@@ -5,11 +5,13 @@ use mathlib.Core.Bool.{Bool, true, false}
 use mathlib.Core.List.{List, [], _∷_, map}
 use Prim.Native.Nat.{ℕ}
 use Prim.Native.String.{String}
+use lib.IntN.{pos, negℤ}
 use Rattle.scan.specs.Ascii.{ascii}
 use Rattle.scan.specs.Bytes.{isLetter, isDigit, isSpace, isSigil, isSign, inRun, runFrom, runEnd, startsWith, inComment, skipFrom, skipEnd}
 use Rattle.scan.specs.Quantized.{signEnd}
 use Rattle.text.specs.Lex.{markToken, signToken, plainWord, wordToken, lexeme, tokenAt}
 use Rattle.text.specs.Names.{wordIs}
+use Rattle.element.specs.Types.{slotFor}
 use Rattle.element.specs.declared.ElementType.{ElementType}
 use Rattle.element.specs.declared.ElementType.the-variants.{I1, I8, I32, U8}
 use Rattle.types.specs.Numbers.{digitsFrom, magnitudeOf, numberOf, inType, numberIn}
@@ -38,10 +40,10 @@ read : map elementsOf
     value I32 [] "+7>" ∷ [])
     ≡ (1 ∷ 2 ∷ 3 ∷ 0 ∷ []) ∷
     (255 ∷ 255 ∷ 255 ∷ []) ∷
-    (18446744073709551488 ∷ 127 ∷ []) ∷
+    (slotFor I8 (negℤ (pos 128)) ∷ 127 ∷ []) ∷
     (1 ∷ 0 ∷ []) ∷
     (7 ∷ []) ∷ []
-unfolding isLetter isDigit isSpace isSigil isSign inRun runFrom runEnd startsWith inComment skipFrom skipEnd signEnd markToken signToken plainWord wordToken lexeme tokenAt wordIs digitsFrom magnitudeOf numberOf inType numberIn booleanOf literalOf andThen markAt before oneAt itemsAt denseAt sameAt denseValue
+unfolding isLetter isDigit isSpace isSigil isSign inRun runFrom runEnd startsWith inComment skipFrom skipEnd signEnd markToken signToken plainWord wordToken lexeme tokenAt wordIs digitsFrom magnitudeOf numberOf inType numberIn booleanOf literalOf andThen markAt before oneAt itemsAt denseAt sameAt denseValue slotFor
 read = refl
 
 -- "(`[[], []]` for 2x0, `[]` for 0x2)", one literal where there is no element

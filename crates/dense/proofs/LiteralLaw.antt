@@ -10,7 +10,7 @@ use Rattle.lists.specs.Lists.{pick}
 use Rattle.scan.specs.Ascii.{ascii}
 use Rattle.text.specs.Names.{wordIs}
 use Rattle.text.specs.declared.Token.{Token}
-use Rattle.element.specs.Types.{boolOf, slotOf, Value}
+use Rattle.element.specs.Types.{boolOf, slotFor, Value}
 use Rattle.element.specs.declared.ElementType.{ElementType}
 use Rattle.element.proofs.Ends.{ends, zero-value}
 use Rattle.types.specs.Numbers.{numberOf, inType, numberIn}
@@ -25,7 +25,7 @@ number-value : (t : ElementType) (z : ℤ) → Slot t (numberIn t z)
 unfolding numberIn
 number-value t z = go (inType t z) (fits-value t z)
   where
-    go : (b : Bool) → (b ≡ true → Value t (slotOf z)) → Slot t (pick b (record { fits = true; bits = slotOf z }) (record { fits = false; bits = 0 }))
+    go : (b : Bool) → (b ≡ true → Value t (slotFor t z)) → Slot t (pick b (record { fits = true; bits = slotFor t z }) (record { fits = false; bits = 0 }))
     go true h o = h refl
     go false h o = zero-value t
 

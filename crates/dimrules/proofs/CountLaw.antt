@@ -10,7 +10,8 @@ use borrow.Author.Tests.{eqb-true, not-false}
 use Rattle.lists.specs.Lists.{tab, firstWhere}
 use Rattle.lists.proofs.TabLaw.{length-tab, getD-tab}
 use Rattle.lists.proofs.SearchLaw.{Passed, passed-none, passed-next, passed-here, passed-end, none-passes}
-use Rattle.dimrules.specs.Count.{firstFailing, everywhere, countBelow, sumBelow}
+use Rattle.shape.specs.Place.{countBelow}
+use Rattle.dimrules.specs.Count.{firstFailing, everywhere, sumBelow}
 
 -- each place below d passes
 abbrev pub Reached : ℕ → (ℕ → Bool) → ℕ → Type 0

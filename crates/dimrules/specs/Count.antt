@@ -1,9 +1,9 @@
--- Tests at every number below one: the first that fails, and whether none does. Counts and sums.
+-- Tests at every number below one: the first that fails, and whether none does. Sums.
 -- Assumes nothing.
 use mathlib.Core.Bool.{Bool, not}
 use Prim.Native.Nat.{ℕ, zero, suc, _+_}
 use lib.Dec.{eqb}
-use Rattle.lists.specs.Lists.{pick, tab, firstWhere}
+use Rattle.lists.specs.Lists.{tab, firstWhere}
 
 -- the first of 0 .. n - 1 that fails the test; n where none does
 unfoldable pub firstFailing : ℕ → (ℕ → Bool) → ℕ
@@ -12,11 +12,6 @@ firstFailing n t = firstWhere (λ d. not (t d)) (tab n (λ d. d))
 -- each of 0 .. n - 1 passes the test
 unfoldable pub everywhere : ℕ → (ℕ → Bool) → Bool
 everywhere n t = eqb (firstFailing n t) n
-
--- how many of 0 .. n - 1 pass
-abbrev pub countBelow : (ℕ → Bool) → ℕ → ℕ
-countBelow t zero = 0
-countBelow t (suc n) = countBelow t n + pick (t n) 1 0
 
 -- the sum of f 0 .. f (n - 1)
 abbrev pub sumBelow : ℕ → (ℕ → ℕ) → ℕ

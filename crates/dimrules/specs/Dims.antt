@@ -4,16 +4,15 @@ use mathlib.Core.List.{List}
 use mathlib.Core.Bool.{Bool, not, _||_}
 use Prim.Native.Nat.{ℕ, _≤_}
 use lib.ListN.{take, replicate}
-use lib.Dec.{ltb, eqb}
+use lib.Dec.{eqb}
 use Rattle.shape.specs.Index.{at}
 use Rattle.shape.specs.Dims.{dimsOf, Sized}
-use Rattle.shape.specs.Place.{placeIn}
+use Rattle.shape.specs.Place.{placeIn, isIn, countBelow}
 use Rattle.shape.specs.declared.Shape.{Shape}
 use Rattle.dimrules.specs.declared.Numbers.{Numbers}
 use Rattle.dimrules.specs.declared.Sides.{Sides}
 use Rattle.dimrules.specs.declared.DimTest.{DimTest}
 use Rattle.dimrules.specs.declared.DimTest.the-variants.{Same, SameExcept, InOrder, Positive, Ceiling, NonNegative, Padded, Below, Unique, Moved, Stretched, SizeIs, Kept}
-use Rattle.dimrules.specs.Count.{countBelow}
 use Rattle.dimrules.specs.Whole.{below, inOrder, positive, nonNegative, ceilingIs, paddedIs}
 
 -- the numbers of an attribute list
@@ -27,21 +26,17 @@ dim s d = at (dimsOf s) d
 abbrev pub num : Numbers → ℕ → ℕ
 num a d = at (listOf a) d
 
--- d is one of the numbers
-unfoldable pub isIn : Numbers → ℕ → Bool
-isIn a d = ltb (placeIn (listOf a) d) (a .count)
-
 -- the number at d stands at no place before
 unfoldable pub isFirst : Numbers → ℕ → Bool
 isFirst a d = eqb (placeIn (listOf a) (num a d)) d
 
 -- how many dimensions below d are not listed: the place of d among those kept
 unfoldable pub keptBelow : Numbers → ℕ → ℕ
-keptBelow a d = countBelow (λ e. not (isIn a e)) d
+keptBelow a d = countBelow (λ e. not (isIn (listOf a) e)) d
 
 -- dimension d is listed, or its size is that of its place among those kept
 unfoldable pub keptIs : Sides → ℕ → Bool
-keptIs s d = isIn (s .a) d || eqb (dim (s .n) d) (dim (s .m) (keptBelow (s .a) d))
+keptIs s d = isIn (listOf (s .a)) d || eqb (dim (s .n) d) (dim (s .m) (keptBelow (s .a) d))
 
 unfoldable pub dimTest : DimTest → Sides → ℕ → Bool
 dimTest Same s d = eqb (dim (s .n) d) (dim (s .m) d)

@@ -1,17 +1,13 @@
 -- Attribute numbers as whole numbers: "Shapes in constraints are whole numbers and never wrap" (01, "The twelve refusals").
 -- Assumes nothing.
 use mathlib.Core.Bool.{Bool, false, _&&_}
-use Prim.Native.Nat.{ℕ, _+_, _-_, _/_, _^_}
+use Prim.Native.Nat.{ℕ, _+_, _-_}
 use lib.Dec.{ltb, eqb}
 use lib.IntN.{ℤ, pos, negsuc, _+ℤ_, _*ℤ_}
 use lib.Signed.{leZ, ltZ}
-use Rattle.lists.specs.Lists.{pick}
+pub use Rattle.shape.specs.Whole.{numberOf, ceilDiv}
 
--- the signed number of 64 bits (01, "Sizes", 7)
-abbrev pub numberOf : ℕ → ℤ
-numberOf w = pick (ltb w (2 ^ 63)) (pos w) (negsuc (2 ^ 64 - 1 - w))
-
--- its parts above and below 0
+-- the parts of a number above and below 0
 abbrev pub upOf : ℤ → ℕ
 upOf (pos n) = n
 upOf (negsuc n) = 0
@@ -41,10 +37,6 @@ below w k = leZ (pos 0) (numberOf w) && ltZ (numberOf w) (pos k)
 -- 0 <= s <= l <= n
 unfoldable pub inOrder : ℕ → ℕ → ℕ → Bool
 inOrder s l n = leZ (pos 0) (numberOf s) && leZ (numberOf s) (numberOf l) && leZ (numberOf l) (pos n)
-
--- the ceiling of a / b
-abbrev pub ceilDiv : ℕ → ℕ → ℕ
-ceilDiv a b = (a + b - 1) / b
 
 -- m is the ceiling of (l - s) / stride, under 0 <= s <= l and 0 < stride
 unfoldable pub ceilingIs : ℕ → ℕ → ℕ → ℕ → Bool

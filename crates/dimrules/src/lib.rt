@@ -11,7 +11,8 @@ ghost use Rattle.shape.specs.Index.{at};
 ghost use Rattle.shape.specs.Dims.{Sized};
 ghost use Rattle.dimrules.specs.Count.{firstFailing, everywhere};
 ghost use Rattle.dimrules.specs.Whole.{numberOf, upOf, downOf, nonNegative, positive as «positive-number», below as «below-number», inOrder, ceilingIs, paddedIs};
-ghost use Rattle.dimrules.specs.Dims.{dim, num, isIn, keptBelow, keptIs, isFirst, dimTest, Ready};
+ghost use Rattle.shape.specs.Place.{isIn};
+ghost use Rattle.dimrules.specs.Dims.{dim, num, listOf, keptBelow, keptIs, isFirst, dimTest, Ready};
 ghost use Rattle.dimrules.specs.Types.{elementCode, sameElement, sameShape, sameType, sameButOne, typeTest, operandTest, allTypes, sumOfDims, shapesOf, AllSized};
 
 pub struct TensorType {
@@ -209,7 +210,7 @@ pub fn number_at(a: Numbers, d: usize) -> usize
 // Whether d is one of the numbers.
 fn is_in(a: Numbers, d: usize) -> bool
     requires { ⌜ a .count ≤ 6 ⌝ }
-    ensures { λ r. ⌜ r ≡ isIn a d ⌝ }
+    ensures { λ r. ⌜ r ≡ isIn (listOf a) d ⌝ }
 {
     let list = a.list;
     shape::place_in(list, a.count, d) < a.count

@@ -11,7 +11,7 @@ use lib.Dec.{eqb}
 use mir.Syntax.{Width, w64}
 use mir.Val.{SFits, toZ, ofZ, bits}
 use Rattle.lists.specs.Lists.{pick}
-use Rattle.element.specs.Types.{read, wrap, widthOf, signedOf, valueOf, wrapTo, slotOf, Value}
+use Rattle.element.specs.Types.{read, wrap, widthOf, signedOf, valueOf, wrapTo, slotFor, slotOf, Value}
 use Rattle.element.specs.declared.ElementType.{ElementType}
 use Rattle.element.specs.declared.ElementType.the-variants.{I1, I8, I16, I32, I64, U8, U16, U32, U64}
 use Rattle.element.proofs.Signed.{value-signed, value-unsigned}
@@ -41,7 +41,7 @@ module _ (w : Width) (t : ElementType) (g : signedOf t ≡ true) (e : widthOf t 
 
   pub divided-slot : (op : Division) (a b : ℕ) {x y r : ℤ} → mag x < 2 ^ 63 → x ≡ read true 64 a → mag y < 2 ^ 63 → y ≡ read true 64 b → mag r < 2 ^ 63
       → r ≡ wrap true (bits w) (resultOf op (toZ w64 (ofZ w64 x)) (toZ w64 (ofZ w64 y))) → slotOf (toZ w64 (ofZ w64 r)) ≡ wrapTo t (resultOf op (valueOf t a) (valueOf t b))
-  unfolding wrapTo
+  unfolding wrapTo slotFor
   divided-slot op a b hx ex hy ey hr er =
       ap slotOf (held w64 hr er ∙ ap₂ (λ (u v : ℤ). wrap true (bits w) (resultOf op u v)) (held w64 hx ex) (held w64 hy ey))
       ∙ rw (value-signed t a g, value-signed t b g, e, g)

@@ -4,4 +4,6 @@ pub mod Wrap
 pub mod Slots
 pub mod Signed
 pub mod Range
+pub mod Examples
 pub mod Ends
+pub mod Held

@@ -12,7 +12,7 @@ use lib.Signed.{mag}
 use lib.Dec.{leb, ltb}
 use borrow.Author.Tests.{ltb-true, leb-true, leb-false, lt-ltb, le-leb, lt-leb}
 use Rattle.lists.specs.Lists.{pick}
-use Rattle.element.specs.Types.{read, wrap, widthOf, signedOf, valueOf, wrapTo, slotOf, isValue, Value, lowestOf, highestOf}
+use Rattle.element.specs.Types.{read, wrap, widthOf, signedOf, valueOf, wrapTo, slotFor, slotOf, isValue, Value, lowestOf, highestOf}
 use Rattle.element.specs.declared.ElementType.{ElementType}
 use Rattle.element.proofs.Wrap.{extend, wrap-signed, wrap-unsigned, power}
 use Rattle.element.proofs.Slots.{sized, slot-value, wrapTo-is}
@@ -81,7 +81,7 @@ module _ (t : ElementType) (s : ℕ) (v : Value t s) where
 
   -- taking a value of the type into the range leaves it
   pub value-fixed : wrapTo t (valueOf t s) ≡ s
-  unfolding wrapTo
+  unfolding wrapTo slotFor
   value-fixed = go (signedOf t) refl
     where
       go : (b : Bool) → signedOf t ≡ b → slotOf (wrap (signedOf t) (widthOf t) (valueOf t s)) ≡ s
@@ -120,7 +120,7 @@ module _ (t : ElementType) (g : signedOf t ≡ false) {s : ℕ} (h : s < 2 ^ wid
   unsigned-value = low-value t (rw g (omega arith))
 
   pub unsigned-fixed : wrapTo t (pos s) ≡ s
-  unfolding wrapTo
+  unfolding wrapTo slotFor
   unsigned-fixed = rw g (ap slotOf (wrap-unsigned (widthOf t) s h) ∙ mod-eq-of-lt (lt-of-lt-of-le h (pow-mono (sized t .most))))
 
 -- the test `element::is_value` makes

@@ -10,7 +10,7 @@ use lib.IntN.{ℤ, pos, _+ℤ_, _*ℤ_, _-ℤ_, negℤ, -ℤ-+ℤ-cancel}
 use Rattle.element.proofs.Mod.{mul-mod-r}
 use lib.Dec.{lit≤}
 use borrow.Author.Tests.{le-leb, lt-leb}
-use Rattle.element.specs.Types.{wrap, widthOf, signedOf, maskOf, valueOf, wrapTo, slotOf}
+use Rattle.element.specs.Types.{wrap, widthOf, signedOf, maskOf, valueOf, wrapTo, slotFor, slotOf}
 use Rattle.element.specs.declared.ElementType.{ElementType}
 use Rattle.element.specs.declared.ElementType.the-variants.{I1, I8, I16, I32, I64, U8, U16, U32, U64}
 use Rattle.element.proofs.Residue.{residue-lt, only, residue-add, residue-mul, residue-neg}
@@ -40,7 +40,7 @@ unfolding valueOf
 slot-value t {s} h = read-slot (signedOf t) 64 s h
 
 pub wrapTo-is : (t : ElementType) (z : ℤ) → wrapTo t z ≡ extend 64 (signedOf t) (widthOf t) (slotOf z)
-unfolding wrapTo
+unfolding wrapTo slotFor
 wrapTo-is t z = wrap-extend (widthOf t) 64 (sized t .most) (signedOf t) z
 
 -- the type's range takes two integers to one slot where they are congruent modulo 2^64
@@ -103,7 +103,7 @@ pub value-slot : (t u : ElementType) {a : ℕ} → a < 2 ^ 64 → wrapTo u (valu
 value-slot t u {a} h = wrapTo-cong u (valueOf t a) (pos a) (slot-value t h ∙ sym (mod-eq-of-lt h))
 
 pub wrapTo-lt : (t : ElementType) (z : ℤ) → wrapTo t z < 2 ^ 64
-unfolding wrapTo
+unfolding wrapTo slotFor
 wrapTo-lt t z = residue-lt (2 ^ 64) (pow-pos 64) (wrap (signedOf t) (widthOf t) z)
 
 -- b added to c gives a

@@ -62,13 +62,17 @@ wrap signed n z = read signed n (residue (2 ^ n) z)
 abbrev pub slotOf : ℤ → ℕ
 slotOf z = residue (2 ^ 64) z
 
+-- the slot that holds the value z of a type
+unfoldable pub slotFor : ElementType → ℤ → ℕ
+slotFor t z = slotOf z
+
 -- the value that a slot holds
 unfoldable pub valueOf : ElementType → ℕ → ℤ
 valueOf t s = read (signedOf t) 64 s
 
 -- the slot of z taken into the type's range
 unfoldable pub wrapTo : ElementType → ℤ → ℕ
-wrapTo t z = slotOf (wrap (signedOf t) (widthOf t) z)
+wrapTo t z = slotFor t (wrap (signedOf t) (widthOf t) z)
 
 -- the lowest and the highest value of the type, as slots: -2^(n-1) and 2^(n-1) - 1, or 0 and 2^n - 1
 abbrev pub lowestOf : ElementType → ℕ

@@ -1,9 +1,10 @@
 // Element types and their slots.
 ghost use mathlib.Core.Path.{_≡_};
 ghost use mathlib.Core.Bool.{true, false};
-ghost use lib.IntN.{pos};
+ghost use lib.IntN.{pos, negℤ, natAbs};
+ghost use Rattle.lists.specs.Lists.{pick};
 ghost use lib.Signed.{ltZ};
-ghost use Rattle.element.specs.Types.{widthOf, signedOf, boolOf, maskOf, lowestOf, highestOf, allOf, read, slotOf, valueOf, wrapTo, isValue};
+ghost use Rattle.element.specs.Types.{widthOf, signedOf, boolOf, maskOf, lowestOf, highestOf, allOf, read, slotOf, slotFor, valueOf, wrapTo, isValue};
 
 // 01, "Element types".
 pub enum ElementType {
@@ -165,6 +166,29 @@ pub fn is_negative(t: ElementType, a: u64) -> bool
         return 0x8000_0000_0000_0000 <= a;
     }
     false
+}
+
+// The number that a slot holds, without its sign.
+pub fn magnitude(t: ElementType, s: u64) -> u64
+    ensures { λ r. ⌜ r ≡ natAbs (valueOf t s) ⌝ }
+{
+    if is_negative(t, s) {
+        return u64::MAX - s + 1;
+    }
+    s
+}
+
+// The slot that holds the number m or -m, a value of the type.
+pub fn slot_for(t: ElementType, negative: bool, m: u64) -> u64
+    ensures { λ r. ⌜ r ≡ slotFor t (pick negative (negℤ (pos m)) (pos m)) ⌝ }
+{
+    if negative {
+        if m == 0 {
+            return 0;
+        }
+        return u64::MAX - m + 1;
+    }
+    m
 }
 
 // The number that a slot of a signed type holds.

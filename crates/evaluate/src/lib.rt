@@ -10,6 +10,8 @@ ghost use Rattle.inputs.specs.Inputs.{inputSlots, firstForeign};
 ghost use Rattle.evaluation.specs.Evaluated.{ran, fitted, evaluated, answer};
 ghost use Rattle.evaluation.specs.Order.{OrderFreeAnswer};
 ghost use Rattle.evaluation.specs.State.{copied};
+ghost use Rattle.answers.specs.Answered.{answerOf};
+ghost use Rattle.answers.specs.FreeRuns.{FreeOfOrder};
 use constants::constant_into;
 use inputs::first_foreign;
 use inputs::input_slots;
@@ -117,10 +119,12 @@ fn run_text(text: &[u8], inputs: &[u64], store: &mut [u64]) -> Refusal
 }
 
 // The bench: the refusal of a text on its inputs, A and B. The store afterwards follows from the text, the inputs and what it held; and the answer owes
-// nothing to the order of work.
+// nothing to the order of work. Each is said twice: over the program as the code reads it, and, in the words of 01, as it is written.
 pub fn evaluate(text: &[u8], inputs: &[u64], store: &mut [u64]) -> Refusal
     ensures { λ r. ⌜ answer r (now (store .exit)) ≡ evaluated (now (text .entry)) (now (inputs .entry)) (now (store .entry)) ⌝ }
     ensures { λ r. ⌜ OrderFreeAnswer (now (text .entry)) (now (inputs .entry)) (r .number) (now (store .exit)) ⌝ }
+    ensures { λ r. ⌜ answer r (now (store .exit)) ≡ answerOf (now (text .entry)) (now (inputs .entry)) (now (store .entry)) ⌝ }
+    ensures { λ r. ⌜ FreeOfOrder (now (text .entry)) (now (inputs .entry)) (r .number) (now (store .exit)) ⌝ }
 {
     run_text(text, inputs, store)
 }

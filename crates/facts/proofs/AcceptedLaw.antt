@@ -96,5 +96,5 @@ accepted kind row o r h n e f =
       most = subst (λ (k : ℕ). o .arity ≤ k) (r .most) (t .most);
       scalars = λ q. single row o t (r .scalars ∙ q);
       boolean = λ q. result-i1 row o t (row .result) refl (r .boolean ∙ q);
-      granted = subst (λ (k : Rule). Granted k o) (r .rule) (granted (row .rule) o f);
+      granted = subst (λ (k : Rule). Granted k o) (r .rule) (granted (row .rule) o (rw (h .a .six) (h .a .few)) f);
     }

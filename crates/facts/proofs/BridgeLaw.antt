@@ -3,18 +3,20 @@
 use mathlib.Core.Path.{_≡_, refl, sym, ap, _∙_, subst}
 use mathlib.Core.List.{List, [], _∷_}
 use mathlib.Core.Logic.{_⊎_, inl, inr}
-use Prim.Native.Nat.{ℕ, suc, _<_}
+use Prim.Native.Nat.{ℕ, suc, suc-le-suc, _^_, _<_}
 use native.Mathlib.Omega.{arith}
 use lib.ListN.{length, take}
 use lib.Dec.{eqb}
 use lib.Seq.{length-take-le, ext-getD, getD-take}
 use borrow.Author.Tests.{ne-eqb}
+use Rattle.lists.specs.Lists.{All}
 use Rattle.shape.specs.Index.{at, size}
 use Rattle.shape.specs.Dims.{dimsOf}
 use Rattle.shape.specs.declared.Shape.{Shape}
 use Rattle.dimrules.specs.Dims.{listOf, num}
 use Rattle.dimrules.specs.declared.Numbers.{Numbers}
 use Rattle.elementwise.specs.Elementwise.{spreadSize}
+use Rattle.apply.specs.Apply.{AreNatural}
 use Rattle.rules.specs.Facts.{AlikeShapes}
 use Rattle.facts.specs.Facts.{ShapeRead, ListRead}
 
@@ -39,6 +41,18 @@ below-rank s h d l = subst (λ (n : ℕ). d < n) (rank-is s h) l
 -- where a list has n numbers, they are the first n of its array
 pub first-of : (P : List ℕ → Type 0) (a : Numbers) {n : ℕ} → a .count ≡ n → P (listOf a) → P (take n (a .list))
 first-of P a {n} e p = subst (λ (k : ℕ). P (take k (a .list))) e p
+
+-- the numbers of a list are not negative
+pub natural-list : (a : Numbers) → ListRead a → ((d : ℕ) → d < a .count → num a d < 2 ^ 63) → AreNatural (a .count) (a .list)
+natural-list a h f = all-at (listOf a) (λ d l. f d (subst (λ (n : ℕ). d < n) (count-is a h) l))
+  where
+    all-at : (l : List ℕ) → ((d : ℕ) → d < length l → at l d < 2 ^ 63) → All (λ w. w < 2 ^ 63) l
+    all-at [] g = tt
+    all-at (w ∷ l) g = (g 0 (omega arith), all-at l (λ d q. g (suc d) (suc-le-suc q)))
+
+-- numbers below a rank
+pub natural-below : (a : Numbers) → ListRead a → (s : Shape) → ShapeRead s → ((d : ℕ) → d < a .count → num a d < s .rank) → AreNatural (a .count) (a .list)
+natural-below a h s p f = natural-list a h (λ d l. omega (arith, f d l, p .sized .rank))
 
 -- a number alone is the first of its array
 pub lone : (a : Numbers) → a .count ≡ 1 → num a 0 ≡ at (a .list) 0

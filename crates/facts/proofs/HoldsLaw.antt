@@ -7,19 +7,18 @@ use mathlib.Core.Logic.{_⊎_, inl, inr}
 use Prim.Native.Nat.{ℕ, zero, suc, _+_, _≤_, _<_}
 use native.Mathlib.Numerals.{add-one}
 use native.Mathlib.Omega.{arith}
-use lib.Dec.{ltb}
 use lib.ListN.{length, take}
 use lib.Seq.{take-suc, take-length}
 use Rattle.lists.specs.Lists.{pick, tab}
 use Rattle.lists.proofs.AllLaw.{all-tab}
 use Rattle.shape.specs.Index.{at}
 use Rattle.shape.specs.Dims.{dimsOf}
-use Rattle.shape.specs.Place.{placeIn}
+use Rattle.shape.specs.Place.{isIn, countBelow}
 use Rattle.maps.specs.Concatenation.{sumAlong}
 use Rattle.maps.specs.Holds.{BroadcastHolds, TransposeHolds, ConcatenateHolds}
-use Rattle.reduction.specs.Rows.{isIn, countBelow, collect, ReduceHolds}
-use Rattle.dimrules.specs.Count.{countBelow as countOf, sumBelow}
-use Rattle.dimrules.specs.Dims.{listOf, dim, isIn as isListed, keptBelow}
+use Rattle.reduction.specs.Rows.{collect, ReduceHolds}
+use Rattle.dimrules.specs.Count.{sumBelow}
+use Rattle.dimrules.specs.Dims.{listOf, dim, keptBelow}
 use Rattle.dimrules.specs.Types.{typeAt, sumOfDims}
 use Rattle.dimrules.specs.declared.TensorType.{TensorType}
 use Rattle.dimrules.specs.declared.Numbers.{Numbers}
@@ -64,35 +63,24 @@ collect-is t f to (suc n) b h = by-test (t n) refl b (collect-is t f to n (omega
     by-test false e c ih =
         append-nil (collect n t f) ∙ ih ∙ ap (λ (k : ℕ). take k to) (let z : countBelow t n ≡ countBelow t n + 0 = omega arith in z)
 
-count-same : (t s : ℕ → Bool) → ((e : ℕ) → t e ≡ s e) → (n : ℕ) → countOf t n ≡ countBelow s n
-count-same t s h zero = refl
-count-same t s h (suc n) = λ i. count-same t s h n i + pick (h n i) 1 0
-
-module _ (a : Numbers) (n : ListRead a) where
-  listed-is : (d : ℕ) → isListed a d ≡ isIn (listOf a) d
-  unfolding isListed
-  listed-is d = ap (λ (k : ℕ). ltb (placeIn (listOf a) d) k) (sym (count-is a n))
-
-  kept-is : (d : ℕ) → keptBelow a d ≡ countBelow (λ e. not (isIn (listOf a) e)) d
-  unfolding keptBelow
-  kept-is d = count-same (λ e. not (isListed a e)) (λ e. not (isIn (listOf a) e)) (λ e. ap not (listed-is e)) d
-
+module _ (a : Numbers) where
   pub reduce-holds : (x v b c r : TensorType) → ShapeRead (x .shape) → ShapeRead (r .shape) → ReduceGranted x v b c a r
       → ReduceHolds (listOf a) (dimsOf (x .shape)) (dimsOf (r .shape))
+  unfolding keptBelow
   reduce-holds x v b c r p q g =
       let kept : ℕ → Bool = λ d. not (isIn (listOf a) d) in
       let e : countBelow kept (length (dimsOf (x .shape))) ≡ length (dimsOf (r .shape)) =
-      ap (countBelow kept) (rank-is (x .shape) p) ∙ sym (kept-is (x .shape .rank)) ∙ sym (g .rank) ∙ sym (rank-is (r .shape) q) in
+      ap (countBelow kept) (rank-is (x .shape) p) ∙ sym (g .rank) ∙ sym (rank-is (r .shape) q) in
       record {
         shape = sym (collect-is kept (at (dimsOf (x .shape))) (dimsOf (r .shape)) (length (dimsOf (x .shape))) (omega arith)
             (λ d l k. placed d k (g .sizes d (below-rank (x .shape) p d l)))
             ∙ ap (λ (m : ℕ). take m (dimsOf (r .shape))) e ∙ take-length (dimsOf (r .shape)));
       }
     where
-      placed : (d : ℕ) → not (isIn (listOf a) d) ≡ true → (isListed a d ≡ true) ⊎ (dim (x .shape) d ≡ dim (r .shape) (keptBelow a d))
+      placed : (d : ℕ) → not (isIn (listOf a) d) ≡ true → (isIn (listOf a) d ≡ true) ⊎ (dim (x .shape) d ≡ dim (r .shape) (keptBelow a d))
           → at (dimsOf (x .shape)) d ≡ at (dimsOf (r .shape)) (countBelow (λ e. not (isIn (listOf a) e)) d)
-      placed d k (inl y) = absurd (false≢true (sym (ap not (sym (listed-is d) ∙ y)) ∙ k))
-      placed d k (inr s) = s ∙ ap (dim (r .shape)) (kept-is d)
+      placed d k (inl y) = absurd (false≢true (sym (ap not y) ∙ k))
+      placed d k (inr s) = s
 
 -- ---- concatenate
 

@@ -19,6 +19,9 @@ use Rattle.ops.specs.declared.Move.{Move}
 use Rattle.ops.specs.declared.Move.the-variants.{Reshape, BroadcastInDim, Transpose, Slice, Reverse}
 use Rattle.ops.specs.declared.Kind.{Kind}
 use Rattle.ops.specs.declared.Kind.the-variants.{Constant, Iota, Elementwise, Pairwise, Quotient, Compare, Convert, Select, Clamp, Moved, Pad, Concatenate, DynamicSlice, Reduce}
+use Rattle.ops.specs.OpAttributes.{naturals}
+use Rattle.ops.proofs.NaturalLaw.{naturals-numbers}
+use Rattle.apply.specs.Apply.{AreNatural}
 use Rattle.ops.specs.Ops.{TensorType as NodeType, noType, operandElement, operandDims, isSingle}
 use Rattle.ops.specs.Typed.{OperandOf, Operand, Granted as NodeGranted}
 use Rattle.dimrules.specs.Dims.{listOf}
@@ -26,8 +29,8 @@ use Rattle.dimrules.specs.Types.{typeAt}
 use Rattle.rules.specs.Facts.{SameTypesHolds}
 use Rattle.opcheck.specs.declared.Operation.{Operation}
 use Rattle.opcheck.specs.Accepted.{Granted}
-use Rattle.facts.specs.Facts.{Shaped, moveRule, AcceptedAs, nodeType, nodeFor}
-use Rattle.facts.proofs.BridgeLaw.{alike-size}
+use Rattle.facts.specs.Facts.{Shaped, moveRule, AcceptedAs, nodeType, integersOf, nodeFor}
+use Rattle.facts.proofs.BridgeLaw.{alike-size, natural-below}
 use Rattle.facts.proofs.AlikeLaw.{SpreadTo, result-alike, same-sizes, select-sizes, clamp-sizes, unary-alike}
 use Rattle.facts.proofs.HoldsLaw.{reduce-holds}
 
@@ -83,9 +86,12 @@ module _ (kind : Kind) (o : Operation) (values : Tensor) (operands : List ℕ) w
       let s = same-sizes o h l g in
       (operand 0 _ (omega arith) (sym (g .operands 0 (omega arith) .element)) (s .0), operand 1 _ l (sym (g .operands 1 l .element)) (s .1))
 
-  reduce-shape : 0 < o .arity → ReduceHolds (listOf (o .a)) (dimsOf (typeAt (o .types) 0 .shape)) (dimsOf (o .result .shape))
-      → ReduceHolds (listOf (o .a)) (operandDims (nodeFor kind o values operands) 0) (dimsOf (o .result .shape))
-  reduce-shape l g = subst (λ (s : List ℕ). ReduceHolds (listOf (o .a)) s (dimsOf (o .result .shape))) (sym (dims-at 0 l)) g
+  reduce-shape : 0 < o .arity → AreNatural (o .a .count) (o .a .list)
+      → ReduceHolds (listOf (o .a)) (dimsOf (typeAt (o .types) 0 .shape)) (dimsOf (o .result .shape))
+      → ReduceHolds (naturals (integersOf (o .a))) (operandDims (nodeFor kind o values operands) 0) (dimsOf (o .result .shape))
+  reduce-shape l n g =
+      subst (λ (ds : List ℕ). ReduceHolds ds (operandDims (nodeFor kind o values operands) 0) (dimsOf (o .result .shape))) (sym (naturals-numbers (listOf (o .a)) n))
+      (subst (λ (s : List ℕ). ReduceHolds (listOf (o .a)) s (dimsOf (o .result .shape))) (sym (dims-at 0 l)) g)
 
 pub constant-holds : (o : Operation) (values : Tensor) → AcceptedAs Constant o → Holds (o .value .element) (size (dimsOf (o .value .shape))) values
     → Holds (o .result .element) (size (dimsOf (o .result .shape))) values
@@ -133,6 +139,6 @@ node-granted (Reduce body) o a vs os c =
     let h = a .shaped in (
       operand-of (Reduce body) o vs os 0 (omega arith) (g .element),
       single-operand (Reduce body) o vs os 1 l h (sym (g .start) ∙ g .element) (a .scalars refl 1 (omega arith) l),
-      reduce-shape (Reduce body) o vs os (omega arith)
-          (reduce-holds (o .a) (h .a) (typeAt (o .types) 0) (typeAt (o .types) 1) (o .left) (o .right) (o .result) (h .types 0 (omega arith)) (h .result) g),
+      reduce-shape (Reduce body) o vs os (omega arith) (natural-below (o .a) (h .a) (typeAt (o .types) 0 .shape) (h .types 0 (omega arith)) (g .listed .below))
+          (reduce-holds (o .a) (typeAt (o .types) 0) (typeAt (o .types) 1) (o .left) (o .right) (o .result) (h .types 0 (omega arith)) (h .result) g),
     )

@@ -5,6 +5,7 @@ use mathlib.Core.List.{List}
 use Prim.Native.Nat.{ℕ, _+_, _≤_, _<_}
 use native.Mathlib.Omega.{arith}
 use lib.ListN.{length, getD}
+use lib.IntN.{pos}
 use Rattle.lists.proofs.TabLaw.{tab-cong, map-tab}
 use Rattle.run.specs.Run.{gives}
 use Rattle.run.specs.Ways.{byFold}
@@ -14,13 +15,16 @@ use Rattle.shape.specs.Dims.{dimsOf, Sized, Fills}
 use Rattle.shape.specs.declared.Shape.{Shape}
 use Rattle.maps.specs.Concatenation.{noShape, shapesOf, concatenated}
 use Rattle.maps.specs.Holds.{ConcatenateHolds, Inputs}
+use Rattle.maps.proofs.AttributeLaw.{numbers-at}
 use Rattle.elementwise.specs.Elementwise.{Tensor, Holds, divided}
 use Rattle.ops.specs.declared.Kind.the-variants.{Constant, Quotient, Concatenate}
+use Rattle.ops.specs.OpAttributes.{natural}
+use Rattle.ops.proofs.NaturalLaw.{natural-number}
 use Rattle.ops.specs.Ops.{TensorType as NodeType, wayOf, hlo}
-use Rattle.dimrules.specs.Dims.{listOf}
+use Rattle.dimrules.specs.Dims.{listOf, num}
 use Rattle.dimrules.specs.Types.{typeAt}
 use Rattle.opcheck.specs.declared.Operation.{Operation}
-use Rattle.facts.specs.Facts.{AcceptedAs, nodeType, nodeFor, Arguments}
+use Rattle.facts.specs.Facts.{AcceptedAs, nodeType, integersOf, nodeFor, Arguments}
 use Rattle.facts.proofs.BridgeLaw.{lone, alike-size}
 use Rattle.facts.proofs.AlikeLaw.{same-sizes}
 use Rattle.facts.proofs.HoldsLaw.{dimsFrom, concatenate-holds}
@@ -77,6 +81,12 @@ module _ (o : Operation) (a : AcceptedAs Concatenate o) (shapes : List Shape)
       → byFold hlo (wayOf (nodeFor Concatenate o values operands) Concatenate args)
       ≡ gives (concatenated (at (o .a .list) 0) (shapesOf shapes (o .arity)) args (dimsOf (o .result .shape)))
   concatenate-is values operands args =
-      ap (λ (s : List (List ℕ)). gives (concatenated (at (listOf (o .a)) 0) s args (dimsOf (o .result .shape))))
+      ap (λ (s : List (List ℕ)). gives (concatenated (natural (getD (integersOf (o .a)) 0 (pos 0))) s args (dimsOf (o .result .shape))))
       (map-tab (λ (t : NodeType). t .dims) (o .arity) (λ j. nodeType (typeAt (o .types) j)) ∙ sym shapes-are)
-      ∙ ap (λ (k : ℕ). gives (concatenated k (shapesOf shapes (o .arity)) args (dimsOf (o .result .shape)))) (lone (o .a) (a .number))
+      ∙ ap (λ (k : ℕ). gives (concatenated k (shapesOf shapes (o .arity)) args (dimsOf (o .result .shape)))) along
+    where
+      -- dimension is below the rank
+      along : natural (getD (integersOf (o .a)) 0 (pos 0)) ≡ at (o .a .list) 0
+      along =
+          ap natural (sym (numbers-at (listOf (o .a)) 0)) ∙ natural-number (num (o .a) 0) (omega (arith, a .granted .along, a .shaped .result .sized .rank))
+          ∙ lone (o .a) (a .number)

@@ -19,16 +19,18 @@ use Rattle.apply.specs.Apply.{nodeOf, outcome}
 use Rattle.apply.proofs.ApplyLaw.{singles}
 use Rattle.dimrules.specs.Types.{typeAt}
 use Rattle.opcheck.specs.declared.Operation.{Operation}
-use Rattle.facts.specs.Facts.{AcceptedAs, taskOf, nodeFor, DoneByTask, Arguments}
+use Rattle.opcheck.specs.Accepted.{Granted}
+use Rattle.facts.specs.Facts.{moveRule, AcceptedAs, taskOf, nodeFor, DoneByTask, Arguments}
 use Rattle.facts.proofs.NodeLaw.{element-at, dims-at}
 
 module _ (o : Operation) (values : Tensor) (operands : List ℕ) where
-  moved-same : (m : Move) (x : Tensor) → 0 < o .arity → moved (nodeOf (taskOf (Moved m) o)) m x ≡ moved (nodeFor (Moved m) o values operands) m x
-  moved-same Reshape x l = rw (dims-at (Moved Reshape) o values operands 0 l)
-  moved-same BroadcastInDim x l = rw (dims-at (Moved BroadcastInDim) o values operands 0 l)
-  moved-same Transpose x l = rw (dims-at (Moved Transpose) o values operands 0 l)
-  moved-same Slice x l = rw (dims-at (Moved Slice) o values operands 0 l)
-  moved-same Reverse x l = refl
+  moved-same : (m : Move) (x : Tensor) → 0 < o .arity → Granted (moveRule m) o
+      → moved (nodeOf (Moved m) (taskOf (Moved m) o)) m x ≡ moved (nodeFor (Moved m) o values operands) m x
+  moved-same Reshape x l g = rw (dims-at (Moved Reshape) o values operands 0 l)
+  moved-same BroadcastInDim x l g = rw (dims-at (Moved BroadcastInDim) o values operands 0 l)
+  moved-same Transpose x l g = rw (dims-at (Moved Transpose) o values operands 0 l)
+  moved-same Slice x l g = rw (dims-at (Moved Slice) o values operands 0 l, g .counts .2)
+  moved-same Reverse x l g = refl
 
   -- without starts their type plays no part
   starts-type : AcceptedAs DynamicSlice o → (l x : List ℕ)
@@ -63,10 +65,10 @@ module _ (o : Operation) (values : Tensor) (operands : List ℕ) where
   outcome-is Clamp a n args starts x y z g s =
       let l : 3 ≤ o .arity = a .least in
       rw (dims-at Clamp o values operands 0 (omega arith), dims-at Clamp o values operands 2 l, g .operand-0 (omega arith), g .operand-1 (omega arith), g .operand-2 l)
-  outcome-is (Moved m) a n args starts x y z g s = rw (g .operand-0 (a .least), moved-same m x (a .least))
+  outcome-is (Moved m) a n args starts x y z g s = rw (g .operand-0 (a .least), moved-same m x (a .least) (a .granted))
   outcome-is Pad a n args starts x y z g s =
       let l : 2 ≤ o .arity = a .least in
-      rw (dims-at Pad o values operands 0 (omega arith), g .operand-0 (omega arith), g .operand-1 l)
+      rw (dims-at Pad o values operands 0 (omega arith), a .granted .counts .2, g .operand-0 (omega arith), g .operand-1 l)
   outcome-is DynamicSlice a n args starts x y z g s =
       rw (dims-at DynamicSlice o values operands 0 (a .least), g .operand-0 (a .least), s refl, singles, starts-type a (take (typeAt (o .types) 0 .shape .rank) starts) x)
   outcome-is (Reduce body) a n args starts x y z g s =

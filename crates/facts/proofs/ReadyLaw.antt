@@ -1,19 +1,20 @@
 -- An accepted op is ready to be done: what its function requires of stretches, shapes and attribute lists holds.
 -- Assumes nothing.
 use mathlib.Core.Path.{_≡_, sym, ap, _∙_, subst}
-use Prim.Native.Nat.{ℕ, _≤_, _<_}
+use Prim.Native.Nat.{ℕ, _^_, _≤_, _<_}
 use native.Mathlib.Omega.{arith}
 use lib.ListN.{length, take}
 use lib.Dec.{eqb}
 use Rattle.shape.specs.Index.{at}
 use Rattle.shape.specs.Dims.{dimsOf, Fills}
-use Rattle.maps.specs.Holds.{Stretches, SliceHolds, PadHolds, DynamicSliceHolds, IotaHolds}
+use Rattle.shape.proofs.IndexLaw.{dim-le-volume}
+use Rattle.maps.specs.Holds.{Stretches, TransposeHolds, SliceHolds, PadHolds, DynamicSliceHolds, IotaHolds}
 use Rattle.elementwise.specs.Elementwise.{Tensor, spreadSize, Sized as TwoSized}
 use Rattle.ops.specs.declared.Move.{Move}
 use Rattle.ops.specs.declared.Move.the-variants.{Reshape, BroadcastInDim, Transpose, Slice, Reverse}
 use Rattle.ops.specs.declared.Kind.{Kind}
 use Rattle.ops.specs.declared.Kind.the-variants.{Constant, Iota, Elementwise, Pairwise, Quotient, Compare, Convert, Select, Clamp, Moved, Pad, Concatenate, DynamicSlice, Reduce}
-use Rattle.apply.specs.Apply.{MoveReady, Ready}
+use Rattle.apply.specs.Apply.{AreNatural, MoveReady, Ready}
 use Rattle.dimrules.specs.Dims.{listOf, num}
 use Rattle.dimrules.specs.Types.{typeAt}
 use Rattle.dimrules.specs.declared.TensorType.{TensorType}
@@ -21,9 +22,14 @@ use Rattle.dimrules.specs.declared.Numbers.{Numbers}
 use Rattle.rules.specs.Facts.{SliceHolds as SliceGranted, PadHolds as PadGranted, DynamicSliceHolds as DynamicSliceGranted}
 use Rattle.opcheck.specs.declared.Operation.{Operation}
 use Rattle.opcheck.specs.Accepted.{Granted}
-use Rattle.facts.specs.Facts.{ShapeRead, Shaped, moveRule, AcceptedAs, taskOf, DoneByTask, Stretched}
-use Rattle.facts.proofs.BridgeLaw.{rank-is, below-rank, first-of, lone}
+use Rattle.facts.specs.Facts.{ShapeRead, ListRead, Shaped, moveRule, AcceptedAs, taskOf, DoneByTask, Stretched}
+use Rattle.facts.proofs.BridgeLaw.{rank-is, below-rank, first-of, natural-list, natural-below, lone}
+use Rattle.facts.proofs.HoldsLaw.{transpose-holds}
 use Rattle.facts.proofs.AlikeLaw.{AsResult, SpreadTo, result-alike, alike-result, same-sizes, compare-sizes, select-sizes, clamp-sizes, unary-alike}
+
+-- a list with n numbers
+first-natural : (a : Numbers) → ListRead a → {n : ℕ} → a .count ≡ n → ((d : ℕ) → d < n → num a d < 2 ^ 63) → AreNatural n (a .list)
+first-natural a h {n} e f = subst (λ (k : ℕ). AreNatural k (a .list)) e (natural-list a h (λ d l. f d (subst (λ (k : ℕ). d < k) e l)))
 
 module _ (x : TensorType) (r : TensorType) (p : ShapeRead (x .shape)) (q : ShapeRead (r .shape)) where
   one-rank : r .shape .rank ≡ x .shape .rank → length (dimsOf (r .shape)) ≡ length (dimsOf (x .shape))
@@ -45,6 +51,17 @@ module _ (x : TensorType) (r : TensorType) (p : ShapeRead (x .shape)) (q : Shape
   pad-holds v low high interior g =
       first-of (λ t. PadHolds t (dimsOf (x .shape)) (dimsOf (r .shape))) interior (g .counts .2)
       (record { rank = one-rank (g .rank); nonnegative = λ d l. g .small d (inside l) })
+
+  -- start_indices are below the sizes of the dimensions
+  slice-natural : (start limit strides : Numbers) → ListRead start → ListRead strides → SliceGranted x start limit strides r
+      → AreNatural (start .count) (start .list) × AreNatural (x .shape .rank) (strides .list)
+  slice-natural start limit strides h i g = (
+    natural-list start h
+        (λ d l.
+        let m : d < length (dimsOf (x .shape)) = rw (rank-is (x .shape) p, ← g .counts .0) l in
+        omega (arith, g .order d (inside m), dim-le-volume (dimsOf (x .shape)) d m, p .sized .volume)),
+    first-natural strides i (g .counts .2) (g .small),
+  )
 
 pub dynamic-slice-holds : (o : Operation) → Shaped o → DynamicSliceGranted (o .types) (o .arity) (o .a) (o .result)
     → DynamicSliceHolds (dimsOf (typeAt (o .types) 0 .shape)) (dimsOf (o .result .shape))
@@ -80,10 +97,18 @@ module _ (o : Operation) (h : Shaped o) (x y z out : Tensor) (f : Stretched o x 
 
   move-ready : (m : Move) → 0 < o .arity → Granted (moveRule m) o → MoveReady (taskOf (Moved m) o) m x out
   move-ready Reshape l g = (stretches l, record { sizes = g .sizes })
-  move-ready BroadcastInDim l g = (stretches l, g .count)
-  move-ready Transpose l g = (stretches l, g .count)
+  move-ready BroadcastInDim l g = (stretches l, g .count, natural-below (o .a) (h .a) (o .result .shape) (h .result) (g .listed .below))
+  move-ready Transpose l g =
+      let x = typeAt (o .types) 0 in (
+        stretches l,
+        g .count,
+        first-of (λ p. TransposeHolds p (dimsOf (x .shape)) (dimsOf (o .result .shape))) (o .a) (g .count)
+            (transpose-holds x (o .a) (o .result) (h .types 0 (omega arith)) (h .a) (h .result) g),
+        natural-below (o .a) (h .a) (typeAt (o .types) 0 .shape) (h .types 0 (omega arith)) (λ d m. g .listed .below d (rw (← g .count) m)),
+      )
   move-ready Slice l g =
-      (stretches l, g .counts .0, slice-holds (typeAt (o .types) 0) (o .result) (h .types 0 (omega arith)) (h .result) (o .a) (o .b) (o .c) g)
+      let n = slice-natural (typeAt (o .types) 0) (o .result) (h .types 0 (omega arith)) (h .result) (o .a) (o .b) (o .c) (h .a) (h .c) g in
+      (stretches l, g .counts .0, slice-holds (typeAt (o .types) 0) (o .result) (h .types 0 (omega arith)) (h .result) (o .a) (o .b) (o .c) g, n .0, n .1)
   move-ready Reverse l g = (
     record {
       from-sized = h .result .sized;
@@ -92,6 +117,7 @@ module _ (o : Operation) (h : Shaped o) (x y z out : Tensor) (f : Stretched o x 
       result = f .result;
     },
     h .a .few,
+    natural-below (o .a) (h .a) (o .result .shape) (h .result) (g .listed .below),
   )
 
 -- every class that a task does
@@ -133,14 +159,18 @@ ready Pad o a n x y z out f =
       stretches o h x y z out f (omega arith),
       pad-holds (typeAt (o .types) 0) (o .result) (h .types 0 (omega arith)) (h .result) (typeAt (o .types) 1) (o .a) (o .b) (o .c) (a .granted),
       a .granted .counts .0,
+      first-natural (o .c) (h .c) (a .granted .counts .2) (a .granted .small),
     )
 ready DynamicSlice o a n x y z out f = (stretches o (a .shaped) x y z out f (a .least), dynamic-slice-holds o (a .shaped) (a .granted))
 ready (Reduce body) o a n x y z out f =
     let l : 2 ≤ o .arity = a .least in
-    record {
-      from-sized = a .shaped .types 0 (omega arith) .sized;
-      to-sized = a .shaped .result .sized;
-      few = a .shaped .a .few;
-      operand = f .operand-0 (omega arith);
-      result = f .result;
-    }
+    let h = a .shaped in (
+      record {
+        from-sized = h .types 0 (omega arith) .sized;
+        to-sized = h .result .sized;
+        few = h .a .few;
+        operand = f .operand-0 (omega arith);
+        result = f .result;
+      },
+      natural-below (o .a) (h .a) (typeAt (o .types) 0 .shape) (h .types 0 (omega arith)) (a .granted .listed .below),
+    )

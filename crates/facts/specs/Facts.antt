@@ -2,9 +2,10 @@
 -- Assumes nothing.
 use mathlib.Core.Path.{_≡_}
 use mathlib.Core.Bool.{Bool, true, false}
-use mathlib.Core.List.{List, [], _∷_}
+use mathlib.Core.List.{List, [], _∷_, map}
 use Prim.Native.Nat.{ℕ, _≤_, _<_}
-use lib.ListN.{length, take, getD}
+use lib.ListN.{length, getD}
+use lib.IntN.{ℤ}
 use Rattle.lists.specs.Lists.{tab}
 use Rattle.element.specs.declared.ElementType.the-variants.{I1}
 use Rattle.scalar.specs.declared.Unary.{Unary}
@@ -13,11 +14,13 @@ use Rattle.scalar.specs.declared.Direction.{Direction}
 use Rattle.scalar.specs.declared.Body.{Body}
 use Rattle.shape.specs.Dims.{dimsOf, Sized, Fills}
 use Rattle.shape.specs.declared.Shape.{Shape}
+use Rattle.shape.specs.Whole.{numberOf}
 use Rattle.elementwise.specs.Elementwise.{Tensor}
 use Rattle.ops.specs.declared.Move.{Move}
 use Rattle.ops.specs.declared.Move.the-variants.{Reshape, BroadcastInDim, Transpose, Slice, Reverse}
 use Rattle.ops.specs.declared.Kind.{Kind}
 use Rattle.ops.specs.declared.Kind.the-variants.{Constant, Iota, Elementwise, Pairwise, Quotient, Compare, Convert, Select, Clamp, Moved, Pad, Concatenate, DynamicSlice, Reduce}
+use Rattle.ops.specs.OpAttributes.{attributesBy}
 use Rattle.ops.specs.Ops.{Node, TensorType as NodeType}
 use Rattle.apply.specs.declared.Task.{Task}
 use Rattle.optable.specs.declared.Class.{Class}
@@ -251,16 +254,18 @@ taskOf kind o =
 abbrev pub nodeType : TensorType → NodeType
 nodeType t = record { element = t .element; dims = dimsOf (t .shape) }
 
--- values are a constant's elements, operands the numbers of the values that it reads; of c it has a number for each dimension of operand 0
--- (C2 of slice and of pad)
+-- the numbers of an attribute list
+abbrev pub integersOf : Numbers → List ℤ
+integersOf a = map numberOf (listOf a)
+
+-- values are a constant's elements, operands the numbers of the values that it reads; a and c are the first and the last attribute of the op's row
 abbrev pub nodeFor : Kind → Operation → Tensor → List ℕ → Node
 nodeFor kind o values operands =
     record {
       kind = kind;
       result = nodeType (o .result);
       from = tab (o .arity) (λ j. nodeType (typeAt (o .types) j));
-      first = listOf (o .a);
-      second = take (typeAt (o .types) 0 .shape .rank) (o .c .list);
+      attributes = attributesBy kind (integersOf (o .a)) (integersOf (o .c));
       values = values;
       operands = operands;
     }

@@ -3,8 +3,9 @@
 use mathlib.Core.Path.{_≡_, refl}
 use mathlib.Core.List.{List, [], _∷_}
 use Prim.Native.Nat.{ℕ}
+use lib.IntN.{pos, negℤ}
 use Rattle.lists.specs.Lists.{firstWhere}
-use Rattle.element.specs.Types.{isValue}
+use Rattle.element.specs.Types.{isValue, slotFor}
 use Rattle.element.specs.declared.ElementType.{ElementType}
 use Rattle.element.specs.declared.ElementType.the-variants.{I1, I8, U8}
 use Rattle.dimrules.specs.Count.{firstFailing}
@@ -24,8 +25,8 @@ slots : (inputSlots three ≡ 5) × (inputOf three 1 ≡ 0) × (inputOf three 2 
 unfolding inputSlots inputOf offsetAt sizeAt firstFailing firstWhere
 slots = (refl, refl, refl, refl)
 
--- every slot a value; 255 is no i8 (-1 is 2^64 - 1), 2 no i1, and of both the lower slot counts
-foreign : (firstForeign three (127 ∷ 18446744073709551615 ∷ 1 ∷ 0 ∷ 1 ∷ []) ≡ 5) × (firstForeign three (127 ∷ 255 ∷ 1 ∷ 0 ∷ 1 ∷ []) ≡ 1) ×
-    (firstForeign three (127 ∷ 0 ∷ 2 ∷ 0 ∷ 1 ∷ []) ≡ 2) × (firstForeign three (128 ∷ 0 ∷ 1 ∷ 0 ∷ 2 ∷ []) ≡ 0)
-unfolding firstForeign slotFits inputSlots inputOf offsetAt sizeAt firstFailing firstWhere isValue
+-- every slot a value; 256 is no i8, 2 no i1, and of both the lower slot counts
+foreign : (firstForeign three (127 ∷ slotFor I8 (negℤ (pos 1)) ∷ 1 ∷ 0 ∷ 1 ∷ []) ≡ 5) × (firstForeign three (127 ∷ 256 ∷ 1 ∷ 0 ∷ 1 ∷ []) ≡ 1) ×
+    (firstForeign three (127 ∷ 0 ∷ 2 ∷ 0 ∷ 1 ∷ []) ≡ 2) × (firstForeign three (256 ∷ 0 ∷ 1 ∷ 0 ∷ 2 ∷ []) ≡ 0)
+unfolding firstForeign slotFits inputSlots inputOf offsetAt sizeAt firstFailing firstWhere isValue slotFor
 foreign = (refl, refl, refl, refl)

@@ -14,7 +14,7 @@ use Rattle.scan.specs.TensorText.{elementEnd, typeClose}
 use Rattle.text.specs.Lex.{markToken, nameEnd, nameToken, signToken, quoteToken, plainWord, tensorToken, wordToken, lexeme, tokenAt}
 use Rattle.text.specs.Names.{wordIs}
 use Rattle.types.specs.Tensors.{widthNamed, elementNamed, dimensionsFrom, countOf, allFit, sizePassed, typed, foreign, typeAfter, typeOf}
-use Rattle.types.specs.Numbers.{digitsFrom, magnitudeOf, numberOf, inType, numberIn}
+use Rattle.types.specs.Numbers.{digitsFrom, magnitudeOf, numberOf, isAttributeNumber, patternIn}
 use Rattle.optable.specs.Table.{ops, attributes, choiceKinds, choices, opNames, attributeNames, choiceKindNames, choiceNames}
 use Rattle.optable.specs.Find.{same, placeIn, findOp, findAttribute, findChoiceKind, findChoice}
 use Rattle.grammar.specs.Symbols.{OpName, leafKinds, matches}
@@ -87,7 +87,7 @@ cases =
     []
 
 examples : map (λ c. textRefusal (ascii (c .text))) cases ≡ map (λ c. c .refusal) cases
-unfolding cases textRefusal earliest refusalAt unknown sizes.sizePassed sizes.passes sizes.firstPassed sizes.typePassed sizes.manyElements sizes.manyOps sizes.manyItems sizes.longList sizes.largeNumber sizes.longName itemNumber counts elementsAt itemsAfter opsAfter depthAfter afterToken among readings readingsOf readingsFrom kindOf tokenKind markKind nameKind wordKind quotedKind wordIs grammar leafKinds matches cell step isLetter isDigit isSpace isSigil isSign inRun runFrom runEnd startsWith inComment skipFrom skipEnd byteEnd wordEnd digitsEnd sizeNext shapeFrom shapeEnd complexEnd signEnd integerEnd fractionEnd scientificEnd floatEnd colonEnd parameterEnd moreEnd parametersEnd storageEnd quantizedEnd elementEnd typeClose markToken nameEnd nameToken signToken quoteToken plainWord tensorToken wordToken lexeme tokenAt widthNamed elementNamed dimensionsFrom countOf allFit sizePassed typed foreign typeAfter typeOf digitsFrom magnitudeOf numberOf inType numberIn ops attributes choiceKinds choices opNames attributeNames choiceKindNames choiceNames same placeIn findOp findAttribute findChoiceKind findChoice firstWhere
+unfolding cases textRefusal earliest refusalAt unknown sizes.sizePassed sizes.passes sizes.firstPassed sizes.typePassed sizes.manyElements sizes.manyOps sizes.manyItems sizes.longList sizes.largeNumber sizes.longName itemNumber counts elementsAt itemsAfter opsAfter depthAfter afterToken among readings readingsOf readingsFrom kindOf tokenKind markKind nameKind wordKind quotedKind wordIs grammar leafKinds matches cell step isLetter isDigit isSpace isSigil isSign inRun runFrom runEnd startsWith inComment skipFrom skipEnd byteEnd wordEnd digitsEnd sizeNext shapeFrom shapeEnd complexEnd signEnd integerEnd fractionEnd scientificEnd floatEnd colonEnd parameterEnd moreEnd parametersEnd storageEnd quantizedEnd elementEnd typeClose markToken nameEnd nameToken signToken quoteToken plainWord tensorToken wordToken lexeme tokenAt widthNamed elementNamed dimensionsFrom countOf allFit sizePassed typed foreign typeAfter typeOf digitsFrom magnitudeOf numberOf isAttributeNumber patternIn ops attributes choiceKinds choices opNames attributeNames choiceKindNames choiceNames same placeIn findOp findAttribute findChoiceKind findChoice firstWhere
 examples = refl
 
 -- size 4: an op after 255 others, and after 256

@@ -6,9 +6,8 @@ use mathlib.Core.List.{List, [], _∷_}
 use lib.Dec.{eqb, ltb}
 use Rattle.lists.specs.Lists.{pick}
 use Rattle.text.specs.declared.Token.{Token}
-use Rattle.element.specs.declared.ElementType.the-variants.{I64}
 use Rattle.types.specs.Tensors.{typeOf}
-use Rattle.types.specs.Numbers.{numberOf, numberIn}
+use Rattle.types.specs.Numbers.{numberOf, patternIn}
 use Rattle.grammar.specs.Symbols.{OpName, ListNumber}
 use Rattle.judge.specs.declared.tally.Tally.{Tally}
 use Rattle.judge.specs.Roles.{among, typeRoles, numberRoles, listedRoles}
@@ -37,7 +36,7 @@ longList s role = eqb role ListNumber && ltb 6 (itemNumber s)
 
 -- 7: "An attribute number outside `dense` lies in the signed 64-bit range."
 unfoldable pub largeNumber : List ℕ → ℕ → Token → Bool
-largeNumber text role t = among numberRoles role && not (numberIn I64 (numberOf text (t .start)) .fits)
+largeNumber text role t = among numberRoles role && not (patternIn (numberOf text (t .start)) .fits)
 
 -- 8: "A sigil and its name have at most 32 characters."
 unfoldable pub longName : Token → Bool

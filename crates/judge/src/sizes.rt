@@ -8,11 +8,10 @@ use crate::roles::is_type;
 use crate::tally::Tally;
 use crate::tally::elements_at;
 use crate::tally::item_number;
-use element::ElementType;
 use grammar::symbols::Role;
 use limits::Limits;
 use text::Token;
-use types::numbers::number_in;
+use types::numbers::pattern_in;
 use types::tensors::type_at;
 
 // Sizes 1 and 2: the first that a type passes, else 0.
@@ -67,7 +66,7 @@ fn is_large_number(text: &[u8], role: u8, t: Token) -> bool
     ensures { λ r. ⌜ r ≡ largeNumber (now (text .entry)) role t ⌝ }
 {
     if is_number(role) {
-        let n = number_in(text, t.start, ElementType::I64);
+        let n = pattern_in(text, t.start);
         return !n.fits;
     }
     false

@@ -7,37 +7,38 @@ use Prim.Native.Nat.{ℕ, zero, suc, _+_, _*_, _-_, _/_, _%_, _^_, _≤_, _<_}
 use native.Mathlib.Nat.{mul-mod-left, mul-div-cancel, div-add-mod'}
 use native.Mathlib.Numerals.{add-one}
 use native.Mathlib.Omega.{arith}
-use lib.ListN.{length}
+use lib.ListN.{length, getD}
 use lib.IntN.{ℤ, pos, negsuc, _+ℤ_, _-ℤ_, _*ℤ_, +ℤ-comm, +ℤ-negℤ-cancel, -ℤ-+ℤ-cancel}
 use lib.Dec.{eqb}
 use borrow.Author.Tests.{lt-ltb, le-ltb, eq-eqb, eqb-true}
 use Rattle.lists.specs.Lists.{pick, tab}
 use Rattle.lists.proofs.TabLaw.{getD-tab}
-use Rattle.element.proofs.Signed.{read-low, read-high}
 use Rattle.shape.specs.Index.{at, IndexOf, elementAt}
+use Rattle.shape.specs.Whole.{numberOf}
 use Rattle.shape.proofs.ElementLaw.{element-default}
-use Rattle.maps.specs.Formulas.{numberOf, padStep, padCoord, padIndex, padded}
+use Rattle.shape.proofs.WholeLaw.{number-low, number-high}
+use Rattle.maps.specs.Formulas.{padStep, padCoord, padIndex, padded}
 use Rattle.maps.proofs.GatherLaw.{gathered-at, index-is, index-of-tab}
 
 -- ---- the (padIndex low interior from (at i)) as the code finds it, by the sign of edge_padding_low
 
 module _ (low interior n x : ℕ) where
   pub pad-above : low < 2 ^ 63 → x < low → n ≡ padCoord (numberOf low) interior n x
-  pad-above h l = rw (read-low h) (go low l)
+  pad-above h l = rw (number-low h) (go low l)
     where
       go : (m : ℕ) → x < m → n ≡ padCoord (pos m) interior n x
       go zero l = absurd (let z : ⊥ = omega arith in z)
       go (suc m) l = rw (lt-ltb x (suc m) l)
 
   pub pad-below : low < 2 ^ 63 → low ≤ x → padStep interior n (pos (x - low)) ≡ padCoord (numberOf low) interior n x
-  pad-below h l = rw (read-low h) (go low l)
+  pad-below h l = rw (number-low h) (go low l)
     where
       go : (m : ℕ) → m ≤ x → padStep interior n (pos (x - m)) ≡ padCoord (pos m) interior n x
       go zero l = ap (λ (t : ℕ). padStep interior n (pos t)) (let e : x - 0 ≡ x + 0 = omega arith in e)
       go (suc m) l = rw (le-ltb x (suc m) l)
 
   pub pad-negative : 2 ^ 63 ≤ low → low < 2 ^ 64 → padStep interior n (pos (x + (18446744073709551615 - low + 1))) ≡ padCoord (numberOf low) interior n x
-  pad-negative h l = rw (read-high h l) (ap (λ (t : ℕ). padStep interior n (pos (x + t))) (add-one (18446744073709551615 - low)))
+  pad-negative h l = rw (number-high h) (ap (λ (t : ℕ). padStep interior n (pos (x + t))) (add-one (18446744073709551615 - low)))
 
 -- ---- one coordinate: "result_index = edge_padding_low + operand_index * (interior_padding + 1)"
 
@@ -72,15 +73,15 @@ found-pad low interior n x o e h =
 -- ---- 000: "result[result_index] is operand[operand_index] if result_index = edge_padding_low + operand_index * (interior_padding + 1),
 -- padding_value otherwise"
 
-abbrev pub PadIndex : List ℕ → List ℕ → List ℕ → List ℕ → Type 0
-PadIndex low interior i j = (d : ℕ) → d < length j → pos (at i d) ≡ numberOf (at low d) +ℤ pos (at j d) *ℤ (pos (at interior d) +ℤ pos 1)
+abbrev pub PadIndex : List ℤ → List ℕ → List ℕ → List ℕ → Type 0
+PadIndex low interior i j = (d : ℕ) → d < length j → pos (at i d) ≡ getD low d (pos 0) +ℤ pos (at j d) *ℤ (pos (at interior d) +ℤ pos 1)
 
-module _ (low interior from to x : List ℕ) (z : ℕ) (i : List ℕ) (w : ℕ) (o : IndexOf to i) where
+module _ (low : List ℤ) (interior from to x : List ℕ) (z : ℕ) (i : List ℕ) (w : ℕ) (o : IndexOf to i) where
   pub pad-operand : (j : List ℕ) → IndexOf from j → PadIndex low interior i j → elementAt (padded low interior from to x z) to i w ≡ elementAt x from j z
   pad-operand j p e =
       gathered-at (padIndex low interior from) from to x z i w o
       ∙ ap (λ (k : List ℕ). elementAt x from k z)
-      (index-is (length from) (padIndex low interior from (at i)) j (p .rank) (λ d h. pad-found (numberOf (at low d)) (at interior d) (at from d) (at i d) (at j d) (e d (omega (arith, p .rank)))))
+      (index-is (length from) (padIndex low interior from (at i)) j (p .rank) (λ d h. pad-found (getD low d (pos 0)) (at interior d) (at from d) (at i d) (at j d) (e d (omega (arith, p .rank)))))
 
   pub pad-otherwise : ((j : List ℕ) → IndexOf from j → PadIndex low interior i j → ⊥) → elementAt (padded low interior from to x z) to i w ≡ z
   pad-otherwise none =
@@ -92,4 +93,4 @@ module _ (low interior from to x : List ℕ) (z : ℕ) (i : List ℕ) (w : ℕ) 
       none (tab (length from) (padIndex low interior from (at i))) p
       (λ d h.
       let l : d < length from = omega (arith, p .rank) in
-      rw (getD-tab (length from) (padIndex low interior from (at i)) d 0 l) (found-pad (numberOf (at low d)) (at interior d) (at from d) (at i d) (padIndex low interior from (at i) d) refl (below d l))))
+      rw (getD-tab (length from) (padIndex low interior from (at i)) d 0 l) (found-pad (getD low d (pos 0)) (at interior d) (at from d) (at i d) (padIndex low interior from (at i) d) refl (below d l))))

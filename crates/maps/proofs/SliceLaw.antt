@@ -2,24 +2,23 @@
 -- Assumes nothing.
 use mathlib.Core.Path.{_≡_, refl, sym, ap, _∙_, subst}
 use mathlib.Core.List.{List}
-use mathlib.Core.Bool.{Bool, true, false, false≢true, _&&_}
-use Prim.Native.Nat.{ℕ, suc, _+_, _*_, _-_, _^_, _≤_, _<_, min}
+use mathlib.Core.Bool.{true, false, false≢true}
+use Prim.Native.Nat.{ℕ, suc, _+_, _*_, _-_, _≤_, _<_, min}
 use native.Mathlib.Nat.{le-div-iff-mul-le, suc-mul, mul-one}
 use native.Mathlib.Omega.{arith}
 use lib.ListN.{length, take, replicate, getD-replicate}
 use lib.Seq.{getD-take}
-use lib.Dec.{leb}
-use lib.IntN.{ℤ, pos, negsuc}
+use lib.IntN.{ℤ, pos, negsuc, natAbs}
 use lib.Signed.{ltZ}
 use borrow.Author.Tests.{ltb-true}
-use Rattle.lists.specs.Lists.{pick, tab}
+use Rattle.lists.specs.Lists.{tab}
 use Rattle.lists.proofs.TabLaw.{getD-tab}
-use Rattle.element.specs.Types.{signedOf, valueOf}
 use Rattle.element.specs.declared.ElementType.{ElementType}
 use Rattle.shape.specs.Index.{at, Within, IndexOf, inSix}
+use Rattle.shape.specs.Whole.{ceilDiv}
 use Rattle.shape.proofs.IndexLaw.{at-six}
 use Rattle.maps.specs.Formulas.{sliceIndex, sliced, clampStart, startAt, adjustedStart, dynamicIndex, dynamicSliced}
-use Rattle.maps.specs.Holds.{SliceHolds, DynamicSliceHolds, ceilDiv}
+use Rattle.maps.specs.Holds.{SliceHolds, DynamicSliceHolds}
 use Rattle.maps.proofs.GatherLaw.{gathered-cong, index-of-tab}
 
 -- ---- slice
@@ -42,21 +41,13 @@ slice-index start limit strides from to i ok o = index-of-tab from (sliceIndex s
 
 -- ---- a start read in its type, and clamped
 
-pub clamp-negative : (t : ElementType) (w limit : ℕ) → ltZ (valueOf t w) (pos 0) ≡ true → 0 ≡ clampStart (valueOf t w) limit
-unfolding valueOf
-clamp-negative t w limit e = go (signedOf t && leb (2 ^ 63) w) e
-  where
-    go : (b : Bool) → ltZ (pick b (negsuc (2 ^ 64 - suc w)) (pos w)) (pos 0) ≡ true → 0 ≡ clampStart (pick b (negsuc (2 ^ 64 - suc w)) (pos w)) limit
-    go true e = refl
-    go false e = absurd (let z : ⊥ = omega (arith, ltb-true w 0 e) in z)
+pub clamp-negative : (z : ℤ) (limit : ℕ) → ltZ z (pos 0) ≡ true → 0 ≡ clampStart z limit
+clamp-negative (pos v) limit e = absurd (let z : ⊥ = omega (arith, ltb-true v 0 e) in z)
+clamp-negative (negsuc v) limit e = refl
 
-pub clamp-other : (t : ElementType) (w limit : ℕ) → ltZ (valueOf t w) (pos 0) ≡ false → min w limit ≡ clampStart (valueOf t w) limit
-unfolding valueOf
-clamp-other t w limit e = go (signedOf t && leb (2 ^ 63) w) e
-  where
-    go : (b : Bool) → ltZ (pick b (negsuc (2 ^ 64 - suc w)) (pos w)) (pos 0) ≡ false → min w limit ≡ clampStart (pick b (negsuc (2 ^ 64 - suc w)) (pos w)) limit
-    go true e = absurd (false≢true (sym e))
-    go false e = refl
+pub clamp-other : (z : ℤ) (limit : ℕ) → ltZ z (pos 0) ≡ false → min (natAbs z) limit ≡ clampStart z limit
+clamp-other (pos v) limit e = refl
+clamp-other (negsuc v) limit e = absurd (false≢true (sym e))
 
 pub clamp-le : (z : ℤ) (limit : ℕ) → clampStart z limit ≤ limit
 clamp-le (pos v) limit = omega arith

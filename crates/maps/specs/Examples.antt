@@ -2,8 +2,9 @@
 -- Assumes nothing.
 use mathlib.Core.Path.{_≡_, refl}
 use mathlib.Core.List.{[], _∷_}
+use lib.IntN.{pos, negℤ}
 use Rattle.lists.specs.Lists.{firstWhere}
-use Rattle.element.specs.Types.{valueOf, wrapTo}
+use Rattle.element.specs.Types.{valueOf, wrapTo, slotFor}
 use Rattle.element.specs.declared.ElementType.the-variants.{I32, I64, U64}
 use Rattle.maps.specs.Formulas.{reshaped, broadcasted, transposed, sliced, reversed, padded, dynamicSliced, counted}
 use Rattle.maps.specs.Concatenation.{concatenated}
@@ -32,7 +33,7 @@ pub reverse-example : reversed (1 ∷ []) (3 ∷ 2 ∷ []) (1 ∷ 2 ∷ 3 ∷ 4 
 unfolding firstWhere
 reverse-example = refl
 
-pub pad-example : padded (0 ∷ 1 ∷ []) (1 ∷ 2 ∷ []) (2 ∷ 3 ∷ []) (5 ∷ 9 ∷ []) (1 ∷ 2 ∷ 3 ∷ 4 ∷ 5 ∷ 6 ∷ []) 0
+pub pad-example : padded (pos 0 ∷ pos 1 ∷ []) (1 ∷ 2 ∷ []) (2 ∷ 3 ∷ []) (5 ∷ 9 ∷ []) (1 ∷ 2 ∷ 3 ∷ 4 ∷ 5 ∷ 6 ∷ []) 0
     ≡ 0 ∷ 1 ∷ 0 ∷ 0 ∷ 2 ∷ 0 ∷ 0 ∷ 3 ∷ 0 ∷
     0 ∷ 0 ∷ 0 ∷ 0 ∷ 0 ∷ 0 ∷ 0 ∷ 0 ∷ 0 ∷
     0 ∷ 4 ∷ 0 ∷ 0 ∷ 5 ∷ 0 ∷ 0 ∷ 6 ∷ 0 ∷
@@ -41,9 +42,9 @@ pub pad-example : padded (0 ∷ 1 ∷ []) (1 ∷ 2 ∷ []) (2 ∷ 3 ∷ []) (5 �
 pad-example = refl
 
 -- the starts are -1 and 3
-pub dynamic-slice-example : dynamicSliced I64 (18446744073709551615 ∷ 3 ∷ []) (4 ∷ 4 ∷ []) (2 ∷ 2 ∷ [])
+pub dynamic-slice-example : dynamicSliced I64 (slotFor I64 (negℤ (pos 1)) ∷ 3 ∷ []) (4 ∷ 4 ∷ []) (2 ∷ 2 ∷ [])
     (0 ∷ 0 ∷ 1 ∷ 1 ∷ 0 ∷ 0 ∷ 1 ∷ 1 ∷ 0 ∷ 0 ∷ 0 ∷ 0 ∷ 0 ∷ 0 ∷ 0 ∷ 0 ∷ []) ≡ 1 ∷ 1 ∷ 1 ∷ 1 ∷ []
-unfolding valueOf
+unfolding valueOf slotFor
 dynamic-slice-example = refl
 
 -- 01, "A start index read as signed because slots are 64 bits": ui64 2^64 - 1 is above every start
@@ -53,7 +54,7 @@ unsigned-start = refl
 
 pub iota-examples : (counted I32 0 (4 ∷ 5 ∷ []) ≡ 0 ∷ 0 ∷ 0 ∷ 0 ∷ 0 ∷ 1 ∷ 1 ∷ 1 ∷ 1 ∷ 1 ∷ 2 ∷ 2 ∷ 2 ∷ 2 ∷ 2 ∷ 3 ∷ 3 ∷ 3 ∷ 3 ∷ 3 ∷ [])
     × (counted I32 1 (4 ∷ 5 ∷ []) ≡ 0 ∷ 1 ∷ 2 ∷ 3 ∷ 4 ∷ 0 ∷ 1 ∷ 2 ∷ 3 ∷ 4 ∷ 0 ∷ 1 ∷ 2 ∷ 3 ∷ 4 ∷ 0 ∷ 1 ∷ 2 ∷ 3 ∷ 4 ∷ [])
-unfolding wrapTo
+unfolding wrapTo slotFor
 iota-examples = (refl, refl)
 
 pub concatenate-example : concatenated 0 ((3 ∷ 2 ∷ []) ∷ (1 ∷ 2 ∷ []) ∷ []) ((1 ∷ 2 ∷ 3 ∷ 4 ∷ 5 ∷ 6 ∷ []) ∷ (7 ∷ 8 ∷ []) ∷ []) (4 ∷ 2 ∷ []) ≡ 1 ∷ 2 ∷ 3 ∷ 4 ∷ 5 ∷ 6 ∷ 7 ∷ 8 ∷ []

@@ -1,21 +1,18 @@
 -- The ops that take each element of the result from an index of the operand, by 000's formulas (01, "Shape by shape").
--- Attribute numbers are 64-bit patterns: where a constraint keeps a number from being negative the pattern is the number, else it is read by numberOf.
+-- Attribute numbers are whole numbers: in ℕ where a constraint says 0 <= .., else, of edge_padding_low, in ℤ.
 -- Assumes nothing.
 use mathlib.Core.List.{List}
 use mathlib.Core.Bool.{true}
 use Prim.Native.Nat.{ℕ, _+_, _*_, _-_, _/_, _%_, min}
-use lib.ListN.{length}
+use lib.ListN.{length, getD}
 use lib.Dec.{ltb, eqb}
 use lib.IntN.{ℤ, pos, negsuc, _-ℤ_}
 use Rattle.lists.specs.Lists.{pick, tab}
-use Rattle.element.specs.Types.{read, valueOf, wrapTo}
+use Rattle.element.specs.Types.{valueOf, wrapTo}
 use Rattle.element.specs.declared.ElementType.{ElementType}
 use Rattle.shape.specs.Index.{at, ravel, unravel, tabulate, elementAt}
 use Rattle.shape.specs.Place.{placeIn}
-
--- "An attribute number lies in the signed 64-bit range" (01, "Sizes", 7)
-abbrev pub numberOf : ℕ → ℤ
-numberOf w = read true 64 w
+use Rattle.shape.specs.Whole.{numberOf}
 
 -- "result[result_index] = operand[operand_index]", operand_index[d] by a formula of result_index and d; z where that is no index of the operand
 abbrev pub gathered : ((ℕ → ℕ) → ℕ → ℕ) → List ℕ → List ℕ → List ℕ → ℕ → List ℕ
@@ -68,11 +65,11 @@ padStep interior n (negsuc t) = n
 abbrev pub padCoord : ℤ → ℕ → ℕ → ℕ → ℕ
 padCoord low interior n x = padStep interior n (pos x -ℤ low)
 
-abbrev pub padIndex : List ℕ → List ℕ → List ℕ → (ℕ → ℕ) → ℕ → ℕ
-padIndex low interior from i d = padCoord (numberOf (at low d)) (at interior d) (at from d) (i d)
+abbrev pub padIndex : List ℤ → List ℕ → List ℕ → (ℕ → ℕ) → ℕ → ℕ
+padIndex low interior from i d = padCoord (getD low d (pos 0)) (at interior d) (at from d) (i d)
 
 -- "padding_value otherwise": z
-abbrev pub padded : List ℕ → List ℕ → List ℕ → List ℕ → List ℕ → ℕ → List ℕ
+abbrev pub padded : List ℤ → List ℕ → List ℕ → List ℕ → List ℕ → ℕ → List ℕ
 padded low interior from to x z = gathered (padIndex low interior from) from to x z
 
 -- clamp(0, start, limit)

@@ -3,11 +3,12 @@
 use mathlib.Core.Path.{_≡_}
 use mathlib.Core.List.{List}
 use mathlib.Core.Logic.{_⊎_}
-use Prim.Native.Nat.{ℕ, _+_, _-_, _/_, _^_, _≤_, _<_}
+use Prim.Native.Nat.{ℕ, _+_, _-_, _^_, _≤_, _<_}
 use lib.ListN.{length, getD}
 use Rattle.lists.specs.Lists.{All}
 use Rattle.shape.specs.Index.{at, size}
 use Rattle.shape.specs.Dims.{dimsOf, Sized, Fills}
+use Rattle.shape.specs.Whole.{ceilDiv}
 use Rattle.shape.specs.declared.Shape.{Shape}
 use Rattle.maps.specs.Concatenation.{noShape, sumAlong}
 
@@ -39,10 +40,6 @@ pub record TransposeHolds (permutation from to : List ℕ) : Type 0 where
   pub unique : Distinct permutation
   pub rank : length to ≡ length from
   pub sizes : (d : ℕ) → d < length from → at to d ≡ at from (at permutation d)
-
--- the ceiling of a / b
-abbrev pub ceilDiv : ℕ → ℕ → ℕ
-ceilDiv a b = (a + b - 1) / b
 
 -- slice: C3 0 <= start <= limit <= size, C4 and C5
 pub record SliceHolds (start limit strides from to : List ℕ) : Type 0 where

@@ -1,4 +1,4 @@
--- The formulas of the five ops that one loop serves, by the code's Map.
+-- The formulas of the five ops that one loop serves, by the code's Map: its arrays hold attribute numbers as 64-bit patterns.
 -- Assumes nothing.
 use mathlib.Core.List.{List}
 use Prim.Native.Nat.{ℕ, _^_, _≤_, _<_}
@@ -6,8 +6,9 @@ use lib.ListN.{length, take}
 use Rattle.lists.specs.Lists.{tab}
 use Rattle.shape.specs.Index.{at, Within, elementAt}
 use Rattle.shape.specs.Dims.{dimsOf, Sized, Fills}
+use Rattle.shape.specs.Whole.{numberOf}
 use Rattle.shape.specs.declared.Shape.{Shape}
-use Rattle.maps.specs.Formulas.{numberOf, gathered, transposeIndex, sliceIndex, reverseCoord, broadcastCoord, padCoord}
+use Rattle.maps.specs.Formulas.{gathered, transposeIndex, sliceIndex, reverseCoord, broadcastCoord, padCoord}
 use Rattle.maps.specs.declared.Kind.{Kind}
 use Rattle.maps.specs.declared.Kind.the-variants.{Transpose, Slice, Reverse, Broadcast, Pad}
 use Rattle.maps.specs.declared.Map.{Map}

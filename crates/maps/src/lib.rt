@@ -1,16 +1,18 @@
 // The ops that move elements: each fills exactly the stretch of its result (01, "Shape by shape").
 ghost use mathlib.Core.Path.{_≡_};
+ghost use mathlib.Core.List.{map};
 ghost use Prim.Native.Nat.{_^_, _≤_, _<_};
 ghost use lib.ListN.{length, take};
 ghost use Rattle.element.specs.Types.{valueOf, wrapTo};
 ghost use lib.IntN.{pos};
 ghost use Rattle.shape.specs.Index.{at, size, unravel, inSix};
 ghost use Rattle.shape.specs.Dims.{dimsOf, Sized, Fills};
-ghost use Rattle.maps.specs.Formulas.{numberOf, padStep, padCoord, broadcastCoord, reverseCoord, reshaped, broadcasted, transposed, sliced, reversed, padded, clampStart, adjustedStart, dynamicSliced, counted};
+ghost use Rattle.shape.specs.Whole.{numberOf};
+ghost use Rattle.maps.specs.Formulas.{padStep, padCoord, broadcastCoord, reverseCoord, reshaped, broadcasted, transposed, sliced, reversed, padded, clampStart, adjustedStart, dynamicSliced, counted};
 ghost use Rattle.maps.specs.Concatenation.{concatAt, concatenated, shapesOf, inputsOf};
 ghost use Rattle.lists.specs.Lists.{tab};
 ghost use Rattle.maps.specs.Kinds.{coordOf, Computes, Ready, operandIndex, mappedAt, mapped, Fed};
-ghost use Rattle.maps.specs.Holds.{Stretches, ReshapeHolds, SliceHolds, PadHolds, DynamicSliceHolds, IotaHolds, ConcatenateHolds, Inputs};
+ghost use Rattle.maps.specs.Holds.{Stretches, ReshapeHolds, TransposeHolds, SliceHolds, PadHolds, DynamicSliceHolds, IotaHolds, ConcatenateHolds, Inputs};
 use element::ElementType;
 use limits::Limits;
 use shape::Shape;
@@ -153,7 +155,7 @@ pub fn transpose(
     to: Shape,
     out: &mut [u64],
 )
-    requires { ⌜ Stretches from to (now x) (now out) ⌝ }
+    requires { ⌜ Stretches from to (now x) (now out) × TransposeHolds (take (from .rank) permutation) (dimsOf from) (dimsOf to) ⌝ }
     ensures { λ _. ⌜ now (out .exit) ≡ transposed (take (from .rank) permutation) (dimsOf from) (dimsOf to) (now (x .entry)) ⌝ }
 {
     let rank = from.rank;
@@ -238,7 +240,7 @@ pub fn pad(
     out: &mut [u64],
 )
     requires { ⌜ Stretches from to (now x) (now out) × PadHolds (take (from .rank) interior) (dimsOf from) (dimsOf to) ⌝ }
-    ensures { λ _. ⌜ now (out .exit) ≡ padded (take (from .rank) low) (take (from .rank) interior) (dimsOf from) (dimsOf to) (now (x .entry)) z ⌝ }
+    ensures { λ _. ⌜ now (out .exit) ≡ padded (map numberOf (take (from .rank) low)) (take (from .rank) interior) (dimsOf from) (dimsOf to) (now (x .entry)) z ⌝ }
 {
     let m = Map {
         kind: Kind::Pad,
@@ -256,7 +258,7 @@ fn clamp_start(t: ElementType, start: u64, limit: usize) -> usize
     if element::is_negative(t, start) {
         return 0;
     }
-    let v = start as usize;
+    let v = element::magnitude(t, start) as usize;
     if v < limit {
         return v;
     }

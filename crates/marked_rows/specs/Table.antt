@@ -11,7 +11,7 @@ use lib.ListN.{length}
 use Rattle.lists.specs.Lists.{allBelow}
 use Rattle.run.specs.Run.{Out, gives}
 use Rattle.run.specs.Ways.{byFold}
-use Rattle.element.specs.Types.{slotOf, isValue}
+use Rattle.element.specs.Types.{slotFor, isValue}
 use Rattle.element.specs.declared.ElementType.{ElementType}
 use Rattle.element.specs.declared.ElementType.the-variants.{I1, I8, I32, U8, U16}
 use Rattle.division.specs.declared.Division.the-variants.{Divide, Remainder}
@@ -21,6 +21,7 @@ use Rattle.scalar.specs.declared.Body.{Body}
 use Rattle.scalar.specs.declared.Body.the-variants.{Add}
 use Rattle.shape.specs.Index.{at, size, inSix}
 use Rattle.shape.specs.Dims.{shapeFrom}
+use Rattle.shape.specs.Whole.{patternOf, ceilDiv}
 use Rattle.reduction.specs.Rows.{keptShape}
 use Rattle.elementwise.specs.Elementwise.{Tensor}
 use Rattle.ops.specs.declared.Move.the-variants.{Slice}
@@ -28,7 +29,7 @@ use Rattle.ops.specs.declared.Kind.{Kind}
 use Rattle.ops.specs.declared.Kind.the-variants.{Elementwise, Pairwise, Quotient, Convert, Clamp, Moved, Pad, DynamicSlice, Reduce}
 use Rattle.ops.specs.Ops.{hlo, wayOf}
 use Rattle.optable.specs.Table.{noChoice}
-use Rattle.dimrules.specs.Whole.{ceilDiv, upOf}
+use Rattle.dimrules.specs.Whole.{upOf}
 use Rattle.dimrules.specs.Types.{noType}
 use Rattle.dimrules.specs.declared.TensorType.{TensorType}
 use Rattle.dimrules.specs.declared.Numbers.{Numbers}
@@ -109,8 +110,8 @@ saidOf r = record { typed = true; broken = 0; out = gives (r .result .elements) 
 -- ---- how rows are written; where the paper gives no element type, i32
 
 -- the slot of -k
-abbrev minus : ℕ → ℕ
-minus k = slotOf (negℤ (pos k))
+abbrev minus : ElementType → ℕ → ℕ
+minus t k = slotFor t (negℤ (pos k))
 
 abbrev tensor : ElementType → List ℕ → Tensor → Typed
 tensor e dims xs = record { element = e; dims = dims; elements = xs }
@@ -148,9 +149,9 @@ pad x value low interior high is =
     record {
       kind = Pad;
       operands = list I32 x ∷ single I32 value ∷ [];
-      a = slotOf low ∷ [];
-      b = slotOf high ∷ [];
-      c = slotOf interior ∷ [];
+      a = patternOf low ∷ [];
+      b = patternOf high ∷ [];
+      c = patternOf interior ∷ [];
       result = tensor I32 (padSize (length x) low interior high ∷ []) is;
     }
 
@@ -183,24 +184,24 @@ reduce body dimension dims x start is =
 abbrev pub markedRows : List Row
 markedRows =
     -- "P divide i32 [17, -17, 17, -17] by [3, 3, -3, -3]: [5, -5, -5, 5]; P remainder: [2, -2, 2, -2] (003)."
-    row (Quotient Divide) (list I32 (17 ∷ minus 17 ∷ 17 ∷ minus 17 ∷ []) ∷ list I32 (3 ∷ 3 ∷ minus 3 ∷ minus 3 ∷ []) ∷ []) (list I32 (5 ∷ minus 5 ∷ minus 5 ∷ 5 ∷ []))
-    ∷ row (Quotient Remainder) (list I32 (17 ∷ minus 17 ∷ 17 ∷ minus 17 ∷ []) ∷ list I32 (3 ∷ 3 ∷ minus 3 ∷ minus 3 ∷ []) ∷ []) (list I32 (2 ∷ minus 2 ∷ 2 ∷ minus 2 ∷ []))
+    row (Quotient Divide) (list I32 (17 ∷ minus I32 17 ∷ 17 ∷ minus I32 17 ∷ []) ∷ list I32 (3 ∷ 3 ∷ minus I32 3 ∷ minus I32 3 ∷ []) ∷ []) (list I32 (5 ∷ minus I32 5 ∷ minus I32 5 ∷ 5 ∷ []))
+    ∷ row (Quotient Remainder) (list I32 (17 ∷ minus I32 17 ∷ 17 ∷ minus I32 17 ∷ []) ∷ list I32 (3 ∷ 3 ∷ minus I32 3 ∷ minus I32 3 ∷ []) ∷ []) (list I32 (2 ∷ minus I32 2 ∷ 2 ∷ minus I32 2 ∷ []))
     -- "P i8 -128 / -1: -128, remainder 0. P abs i8 -128: 127."
-    ∷ row (Quotient Divide) (single I8 (minus 128) ∷ single I8 (minus 1) ∷ []) (single I8 (minus 128))
-    ∷ row (Quotient Remainder) (single I8 (minus 128) ∷ single I8 (minus 1) ∷ []) (single I8 0)
-    ∷ row (Elementwise Abs) (single I8 (minus 128) ∷ []) (single I8 127)
+    ∷ row (Quotient Divide) (single I8 (minus I8 128) ∷ single I8 (minus I8 1) ∷ []) (single I8 (minus I8 128))
+    ∷ row (Quotient Remainder) (single I8 (minus I8 128) ∷ single I8 (minus I8 1) ∷ []) (single I8 0)
+    ∷ row (Elementwise Abs) (single I8 (minus I8 128) ∷ []) (single I8 127)
     -- "P i8 127 + 1 = -128; ui8 255 + 1 = 0; i1 true + true = true."
-    ∷ row (Pairwise Plus) (single I8 127 ∷ single I8 1 ∷ []) (single I8 (minus 128))
+    ∷ row (Pairwise Plus) (single I8 127 ∷ single I8 1 ∷ []) (single I8 (minus I8 128))
     ∷ row (Pairwise Plus) (single U8 255 ∷ single U8 1 ∷ []) (single U8 0)
     ∷ row (Pairwise Plus) (single I1 1 ∷ single I1 1 ∷ []) (single I1 1)
     -- "P and [[1, 2], [3, 4]], [[5, 6], [7, 8]]: [[1, 2], [3, 0]] (003)."
     ∷ row (Pairwise And) (tensor I32 (2 ∷ 2 ∷ []) (1 ∷ 2 ∷ 3 ∷ 4 ∷ []) ∷ tensor I32 (2 ∷ 2 ∷ []) (5 ∷ 6 ∷ 7 ∷ 8 ∷ []) ∷ []) (tensor I32 (2 ∷ 2 ∷ []) (1 ∷ 2 ∷ 3 ∷ 0 ∷ []))
     -- "P convert i32 300 to ui8: 44; ui8 200 to i8: -56."
     ∷ row Convert (single I32 300 ∷ []) (single U8 44)
-    ∷ row Convert (single U8 200 ∷ []) (single I8 (minus 56))
+    ∷ row Convert (single U8 200 ∷ []) (single I8 (minus I8 56))
     -- "P i8 -128 arithmetic right by 8: -1; logical by 7: 1."
-    ∷ row (Pairwise ShiftRightArithmetic) (single I8 (minus 128) ∷ single I8 8 ∷ []) (single I8 (minus 1))
-    ∷ row (Pairwise ShiftRightLogical) (single I8 (minus 128) ∷ single I8 7 ∷ []) (single I8 1)
+    ∷ row (Pairwise ShiftRightArithmetic) (single I8 (minus I8 128) ∷ single I8 8 ∷ []) (single I8 (minus I8 1))
+    ∷ row (Pairwise ShiftRightLogical) (single I8 (minus I8 128) ∷ single I8 7 ∷ []) (single I8 1)
     -- "P clamp min 5, x 4, max 3: 3."
     ∷ row Clamp (single I32 5 ∷ single I32 4 ∷ single I32 3 ∷ []) (single I32 3)
     -- "P slice of 5, start 1, limit 5, stride 2: elements 1 and 3."
@@ -209,7 +210,7 @@ markedRows =
     ∷ pad (1 ∷ 2 ∷ 3 ∷ []) 0 (negℤ (pos 1)) (pos 1) (pos 2) (0 ∷ 2 ∷ 0 ∷ 3 ∷ 0 ∷ 0 ∷ [])
     -- "P dynamic_slice size 1 of [1650, 1675, 1700, 1725]: ui8 255 gives [1725], i8 -1 gives [1650]."
     ∷ dynamicSlice 1 (1650 ∷ 1675 ∷ 1700 ∷ 1725 ∷ []) (single U8 255) (1725 ∷ [])
-    ∷ dynamicSlice 1 (1650 ∷ 1675 ∷ 1700 ∷ 1725 ∷ []) (single I8 (minus 1)) (1650 ∷ [])
+    ∷ dynamicSlice 1 (1650 ∷ 1675 ∷ 1700 ∷ 1725 ∷ []) (single I8 (minus I8 1)) (1650 ∷ [])
     -- "P reduce add over dimension 1 of [[1, 2, 3], [4, 5, 6]], start 0: [6, 15]."
     ∷ reduce Add 1 (2 ∷ 3 ∷ []) (1 ∷ 2 ∷ 3 ∷ 4 ∷ 5 ∷ 6 ∷ []) 0 (6 ∷ 15 ∷ [])
     ∷ []

@@ -2,8 +2,7 @@
 -- forgotten at its closing brace". Known names are given by their first bytes, the last one first.
 -- Assumes nothing.
 use mathlib.Core.Bool.{Bool, true}
-use mathlib.Core.List.{List, [], _∷_, _++_}
-use mathlib.Core.Path.{_≡_, refl}
+use mathlib.Core.List.{List, [], _∷_}
 use Prim.Native.Nat.{ℕ}
 use lib.Dec.{T, eqb}
 use Rattle.grammar.specs.Symbols.{leafKinds, matches, Op}
@@ -37,14 +36,15 @@ abbrev right : List Case → Bool
 right [] = true
 right (c ∷ cs) = both (both (eqb (c .found .refusal) (c .refusal)) (eqb (c .found .a) (c .a))) (right cs)
 
--- `%a` at byte 3 is defined before; two results with one name at 6, and an operand that is not defined
+-- `%a` at byte 3 is defined before. Three faults: an operand that is not defined at byte 25, a body's argument that is defined, two results with one name
 abbrev threeFaults : List ℕ
 threeFaults = ascii "   %a %c, %c = \"a.b\"(%a, %d) ({ ^b(%a: tensor<i8>): \"stablehlo.return\"() : () -> () }) : () -> ()"
 
--- the same with that operand left out, and with the body's argument renamed too
+-- the same without that operand
 abbrev twoFaults : List ℕ
 twoFaults = ascii "   %a %c, %c = \"a.b\"(%a) ({ ^b(%a: tensor<i8>): \"stablehlo.return\"() : () -> () }) : () -> ()"
 
+-- and with another name for the body's argument
 abbrev oneFault : List ℕ
 oneFault = ascii "   %a %c, %c = \"a.b\"(%a) ({ ^b(%c: tensor<i8>): \"stablehlo.return\"(%c) : () -> () }) : () -> ()"
 

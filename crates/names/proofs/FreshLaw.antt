@@ -7,15 +7,15 @@ use mathlib.Core.Bool.{Bool, true, false, _&&_, _||_}
 use Prim.Native.Nat.{ℕ, zero, suc, _<_, _≤_}
 use native.Mathlib.Omega.{arith}
 use native.Mathlib.Decide.{ℕ-discrete}
-use lib.Dec.{ltb, eqb}
+use lib.Dec.{eqb}
 use lib.ListN.{length, getD}
-use borrow.Author.Tests.{eqb-true, eqb-false, eq-eqb, le-ltb}
+use borrow.Author.Tests.{eqb-true, eq-eqb, le-ltb}
 use Rattle.lists.specs.Lists.{pick, All}
 use Rattle.scan.specs.Bytes.{among}
 use Rattle.grammar.specs.Symbols.{FunctionName, InputName, InputType, OutputType, ResultName, OpName, FuncReturn, OperandName, OperandType, ResultType, BodyOpen, BodyLabel, ArgumentName, ArgumentType, BodyOpName, BodyReturn, BodyClose, AttributeName, Op}
 use Rattle.syntax.specs.Readings.{Reading, readingsOf}
 use Rattle.syntax.specs.OpsAlone.{OpAlone}
-use Rattle.program.specs.Parts.{partOf, noParts, depthAfter, partsFrom, partsOf, partsAt, opAt}
+use Rattle.program.specs.Parts.{partOf, noParts, depthAfter, partsOf, partsAt, opAt}
 use Rattle.program.specs.Program.{namesOp}
 use Rattle.places.specs.Places.{resultName, countOf, placeOf}
 use Rattle.values.specs.declared.Value.{Value}
@@ -23,9 +23,8 @@ use Rattle.values.specs.Values.{noValue}
 use Rattle.scope.specs.Scope.{sameAt, ends}
 use Rattle.known.specs.Known.{knownNames}
 use Rattle.reading_laws.proofs.CountLaw.{wide-none, none-counted}
-use Rattle.part_laws.proofs.StandLaw.{Every, Level, parts-every}
-use Rattle.scope_laws.proofs.OuterScopeLaw.{not-both}
-use Rattle.names.specs.Names.{Entry, defined, opened, pending, Checked, entries, refused, thenChecked, checkedFault, definesName, isVisible, useName, defineName, settled, forgotten, onToken, tokenChecked, namesRead, opNamesRead, opNamesFault, namesDefined}
+use Rattle.part_laws.proofs.StandLaw.{Level, parts-every}
+use Rattle.names.specs.Names.{Entry, defined, opened, pending, Checked, entries, refused, thenChecked, checkedFault, definesName, isVisible, useName, defineName, settled, onToken, tokenChecked, namesRead, opNamesRead, opNamesFault, namesDefined}
 use Rattle.names.specs.InOrder.{ownPlaces, bodyReadings, namesUsed, firstFault, operandsBodyResult}
 use Rattle.names.proofs.OrderLaw.{op-read-in-order}
 

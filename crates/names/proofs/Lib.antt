@@ -1,6 +1,7 @@
 pub mod SameLaw
-pub mod LikeLaw
 pub mod OwnLaw
+pub mod LikeLaw
 pub mod OrderLaw
 pub mod FreshLaw
+pub mod TextLaw
 mod Examples

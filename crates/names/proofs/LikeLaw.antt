@@ -3,7 +3,7 @@
 -- Assumes nothing.
 use mathlib.Core.Path.{_≡_, refl, sym, ap, subst, _∙_}
 use mathlib.Core.List.{List, [], _∷_, _++_}
-use mathlib.Core.Bool.{Bool, true, false, not, _&&_, _||_}
+use mathlib.Core.Bool.{Bool, true, false, not, _||_}
 use Prim.Native.Nat.{ℕ, zero, suc, _<_}
 use native.Mathlib.Omega.{arith}
 use native.Mathlib.Numerals.{add-one}
@@ -22,14 +22,11 @@ use Rattle.part_laws.proofs.DepthLaw.{outside}
 use Rattle.scope_laws.proofs.OuterScopeLaw.{depth-other}
 use Rattle.names.specs.Names.{Entry, defined, opened, pending, Checked, entries, refused, thenChecked, definesName, isVisible, useName, defineName, settled, forgotten, onToken, tokenChecked, namesRead}
 use Rattle.names.specs.InOrder.{bodyReadings}
+use Rattle.names.proofs.OwnLaw.{not-T}
 
 -- the roles that define a name, look one up, end a body or begin an op
 abbrev pub acting : List ℕ
 acting = InputName ∷ ArgumentName ∷ ResultName ∷ OperandName ∷ BodyClose ∷ OpName ∷ FuncReturn ∷ BodyOpName ∷ BodyReturn ∷ []
-
-not-T : (b : Bool) → T (not b) → b ≡ false
-not-T true t = absurd t
-not-T false t = refl
 
 other-role : (xs : List ℕ) (r x : ℕ) (b : Bool) → eqb r x ≡ b → member xs r ≡ false → member xs x ≡ true → eqb r x ≡ false
 other-role xs r x false q e m = q

@@ -3,7 +3,7 @@
 use mathlib.Core.Path.{_≡_, refl, sym, ap, subst, _∙_}
 use mathlib.Core.List.{List, [], _∷_, _++_, map, append-nil}
 use mathlib.Core.Bool.{Bool, true, false, not, _||_}
-use Prim.Native.Nat.{ℕ, zero, suc}
+use Prim.Native.Nat.{ℕ}
 use native.Mathlib.Omega.{arith}
 use lib.Dec.{T, ltb, eqb}
 use borrow.Author.Tests.{eqb-true}
@@ -23,11 +23,11 @@ use Rattle.program.specs.Parts.{depthAfter}
 use Rattle.program.specs.Program.{namesOp}
 use Rattle.scope.specs.Scope.{begins, ends}
 use Rattle.part_laws.proofs.DepthLaw.{outside, keeps, yields-outside}
-use Rattle.part_laws.proofs.YieldLaw.{By, by-alternative, Two, yields-split}
-use Rattle.part_laws.proofs.ItemLaw.{leaves-yield, Chain, none, more, Chained, chain}
-use Rattle.names.specs.Names.{Entry, defined, opened, pending, Checked, entries, refused, thenChecked, checkedFault, definesName, isVisible, useName, defineName, settled, onToken, tokenChecked, namesRead, opNamesRead, opNamesFault, namesDefined}
+use Rattle.part_laws.proofs.YieldLaw.{by-alternative, yields-split}
+use Rattle.part_laws.proofs.ItemLaw.{leaves-yield, Chain, none, more, chain}
+use Rattle.names.specs.Names.{Entry, defined, pending, Checked, entries, refused, thenChecked, checkedFault, definesName, isVisible, useName, defineName, settled, onToken, tokenChecked, namesRead, opNamesRead, opNamesFault, namesDefined}
 use Rattle.names.specs.InOrder.{ownPlaces, bodyReadings, namesUsed, firstFault, operandsBodyResult}
-use Rattle.names.proofs.LikeLaw.{acting, quiet-token, quiet-depth, Like, below, LikeChecked, passed, fault, read-alike}
+use Rattle.names.proofs.LikeLaw.{acting, quiet-token, below, LikeChecked, passed, fault, read-alike}
 use Rattle.names.proofs.OwnLaw.{not-T, own-append, body-append, own-none, depth-none, body-none}
 
 -- ---- one check after the other

@@ -3,12 +3,12 @@
 -- Assumes nothing.
 use mathlib.Core.Path.{_≡_, refl, sym, ap, subst, _∙_}
 use mathlib.Core.List.{List, [], _∷_, map}
-use mathlib.Core.Bool.{Bool, true, false, _&&_, _||_}
+use mathlib.Core.Bool.{Bool, true, false, _||_}
 use Prim.Native.Nat.{ℕ, zero, suc, _+_, _<_, _≤_}
 use native.Mathlib.Omega.{arith}
 use native.Mathlib.Decide.{decLt}
 use native.Mathlib.Numerals.{add-one}
-use lib.Dec.{ltb, eqb}
+use lib.Dec.{eqb}
 use lib.ListN.{length, getD}
 use borrow.Author.Tests.{lt-ltb, le-ltb, ne-eqb, eqb-true, eqb-false}
 use Rattle.lists.specs.Lists.{pick, tab, All}
@@ -21,11 +21,9 @@ use Rattle.grammar.specs.Machine.{fails, cell, step}
 use Rattle.syntax.specs.Readings.{Reading, reading, readingsFrom, readingsOf}
 use Rattle.syntax.proofs.KindLaw.{is-end}
 use Rattle.program.specs.Program.{programOf}
-use Rattle.program.specs.declared.Parts.{Parts}
 use Rattle.places.specs.Places.{inputName, placeOf}
 use Rattle.values.specs.declared.Value.{Value}
 use Rattle.values.specs.Values.{noValue, valuesIn}
-use Rattle.scope.specs.declared.NameFault.{NameFault}
 use Rattle.scope.specs.Scope.{Scope, scope, fault, faultOf, andThen, body, waiting, waitingName, sameAt, defines, visible, define, look, settle, forget, begins, ends, placed, turned, namesFrom, namesOf, inputsFrom}
 use Rattle.known.specs.Known.{knownNames, namesFault, inputsFault}
 use Rattle.scope_laws.proofs.PlaceBoundLaw.{Started, started, names-within, places-within}

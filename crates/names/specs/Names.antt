@@ -3,7 +3,7 @@
 -- Assumes nothing.
 use Prim.Native.Nat.{ℕ}
 use mathlib.Core.List.{List, [], _∷_, map}
-use mathlib.Core.Bool.{Bool, true, false, _||_}
+use mathlib.Core.Bool.{Bool, false, _||_}
 use lib.Dec.{eqb}
 use Rattle.lists.specs.Lists.{pick}
 use Rattle.scan.specs.Bytes.{among}
@@ -28,6 +28,7 @@ abbrev pub thenChecked : Checked → (List Entry → Checked) → Checked
 thenChecked (entries es) next = next es
 thenChecked (refused n a) next = refused n a
 
+-- the refusal and the byte of its name; both 0 where no name is refused
 unfoldable pub checkedFault : Checked → NameFault
 checkedFault (entries es) = record { refusal = 0; a = 0 }
 checkedFault (refused n a) = record { refusal = n; a = a }
@@ -88,6 +89,7 @@ namesRead text before es (x ∷ xs) = thenChecked (tokenChecked text before (x .
 unfoldable pub opNamesRead : List ℕ → ℕ → List ℕ → Checked
 opNamesRead text at known = thenChecked (namesRead text 0 (map defined known) (readingsOf Op text at)) (settled text)
 
+-- its refusal 5 or 6
 unfoldable pub opNamesFault : List ℕ → ℕ → List ℕ → NameFault
 opNamesFault text at known = checkedFault (opNamesRead text at known)
 

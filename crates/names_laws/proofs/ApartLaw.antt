@@ -2,20 +2,19 @@
 -- Assumes nothing.
 use mathlib.Core.Path.{_≡_, refl, sym, ap, subst, _∙_}
 use mathlib.Core.List.{List}
-use mathlib.Core.Bool.{Bool, true, false, _&&_}
+use mathlib.Core.Bool.{Bool, true, false}
 use Prim.Native.Nat.{ℕ, zero, suc, _+_, _-_, _<_, _≤_}
 use native.Mathlib.Omega.{arith}
 use native.Mathlib.Decide.{decLt}
 use native.Mathlib.Numerals.{add-one}
-use lib.Dec.{eqb, ltb}
-use lib.ListN.{length, getD}
+use lib.Dec.{eqb}
+use lib.ListN.{getD}
 use borrow.Author.Tests.{eqb-true, eq-eqb, lt-ltb, le-ltb}
-use Rattle.lists.specs.Lists.{pick, tab, firstWhere}
+use Rattle.lists.specs.Lists.{tab}
 use Rattle.lists.proofs.TabLaw.{length-tab, getD-tab}
 use Rattle.lists.proofs.TestLaw.{both-true}
 use Rattle.lists.proofs.SearchLaw.{Passed, passed-none, passed-next, passed-here}
 use Rattle.text.specs.Names.{sameBytes, nameBytes, sameName}
-use Rattle.text.specs.declared.names.Name.{Name}
 use Rattle.text.proofs.NameLaw.{same-bytes, bytes-same}
 use Rattle.judge.specs.Judge.{textRefusal}
 use Rattle.program.specs.declared.Program.{Program}
@@ -27,13 +26,12 @@ use Rattle.values.specs.declared.Values.{Values}
 use Rattle.values.specs.Values.{noValue, inputValue, resultValue, inputsOf, opsOf, valueAt, valuesIn}
 use Rattle.values.proofs.ValuesLaw.{value-stands}
 use Rattle.scope.specs.Scope.{nameAt, sameAt}
-use Rattle.known.specs.Known.{knownNames, namesFault, inputsFault}
+use Rattle.known.specs.Known.{knownNames, inputsFault}
 use Rattle.operands.specs.Operands.{valueNamed}
 use Rattle.scope_laws.proofs.OuterScopeLaw.{not-both}
 use Rattle.scope_laws.proofs.Theorems.{inputs-apart}
 use Rattle.grammar.specs.Symbols.{OpName}
 use Rattle.reading_laws.proofs.OpsLaw.{few-bytes, read-program}
-use Rattle.names.specs.Names.{opNamesFault}
 use Rattle.names.proofs.SameLaw.{names-same}
 use Rattle.names.proofs.FreshLaw.{hidden-known, results-fresh}
 use Rattle.typing.specs.Typing.{rowOf, resultsAre}
@@ -70,11 +68,11 @@ module _ (text : List ℕ) where
   value-count = refl
 
   -- the inputs come first, then each op's result
-  input-name : (i : ℕ) → i < inputsOf p → nameOf i ≡ placeOf (p .header) inputName i
+  pub input-name : (i : ℕ) → i < inputsOf p → nameOf i ≡ placeOf (p .header) inputName i
   unfolding valueAt inputValue
   input-name i h = let c = value-count in ap (λ (v : Value). v .name) (value-stands text p i (omega arith)) ∙ rw (lt-ltb i (inputsOf p) h)
 
-  result-name : (k : ℕ) → k < opsOf p → nameOf (inputsOf p + k) ≡ placeOf (opAt text (getD (p .ops) k 0)) resultName 0
+  pub result-name : (k : ℕ) → k < opsOf p → nameOf (inputsOf p + k) ≡ placeOf (opAt text (getD (p .ops) k 0)) resultName 0
   unfolding valueAt resultValue
   result-name k h =
       let i = inputsOf p + k in

@@ -1,1 +1,2 @@
 pub mod ApartLaw
+pub mod RefusalLaw

@@ -3,6 +3,7 @@
 use mathlib.Core.Path.{_≡_, refl}
 use mathlib.Core.List.{List, [], _∷_, map}
 use Prim.Native.Nat.{ℕ}
+use lib.IntN.{pos}
 use Rattle.scan.specs.Ascii.{ascii}
 use Rattle.scalar.specs.declared.Body.the-variants.{Or}
 use Rattle.ops.specs.declared.Kind.the-variants.{Constant, Reduce}
@@ -13,7 +14,8 @@ use Rattle.scan.specs.TensorText.{elementEnd, typeClose}
 use Rattle.scan.specs.TypeText.{byteEnd, complexEnd, digitsEnd, shapeEnd, shapeFrom, sizeNext, wordEnd}
 use Rattle.text.specs.Lex.{lexeme, markToken, nameEnd, nameToken, plainWord, quoteToken, signToken, tensorToken, tokenAt, wordToken}
 use Rattle.text.specs.Names.{nameBytes, sameBytes, sameName, wordIs}
-use Rattle.types.specs.Numbers.{digitsFrom, inType, magnitudeOf, numberIn, numberOf}
+use Rattle.element.specs.Types.{slotFor}
+use Rattle.types.specs.Numbers.{digitsFrom, inType, magnitudeOf, numberIn, numberOf, isAttributeNumber, patternIn}
 use Rattle.types.specs.Tensors.{allFit, countOf as countOfByte, dimensionsFrom, elementNamed, foreign, sizePassed as typeSizePassed, typeAfter, typeOf, typed, widthNamed}
 use Rattle.grammar.specs.Grammar.{grammar}
 use Rattle.grammar.specs.Machine.{cell, step}
@@ -32,11 +34,11 @@ use Rattle.program.specs.Program.{beginsOp, begun, inHeader, namesOp, namingAft
 use Rattle.attribute.specs.Attribute.{choiceAt, closeFrom, denseAt as denseAttribute, endsLiteral, formAt, goesOn, noNumbers, numberAt, numbersAt, numbersFrom, patternAt, tokenAfter, withNumber, wordForm}
 use Rattle.dense.specs.Dense.{andThen, before, booleanOf, denseAt, denseValue, itemsAt, literalOf, markAt, oneAt, sameAt as sameElements}
 use Rattle.dimrules.specs.Count.{everywhere, firstFailing}
-use Rattle.dimrules.specs.Dims.{dimTest, isFirst, isIn, keptBelow, keptIs}
-use Rattle.dimrules.specs.Types.{allTypes, sameButOne, sameElement, sameShape, sameType, sumOfDims, typeTest}
-use Rattle.dimrules.specs.Whole.{below, ceilingIs, inOrder, nonNegative, paddedIs, positive}
-use Rattle.rules.specs.Constraints.{absConstraints, broadcastConstraints, clampConstraints, compareConstraints, compareTypeIs, concatenateConstraints, constantConstraints, convertConstraints, dynamicSliceConstraints, iotaConstraints, padConstraints, reduceConstraints, reshapeConstraints, reverseConstraints, sameTypesConstraints, selectConstraints, sliceConstraints, transposeConstraints}
-use Rattle.opcheck.specs.Judged.{brokenBy, constraintsBy, takenAt, takenByTables}
+use Rattle.dimrules.specs.Dims.{dimTest}
+use Rattle.dimrules.specs.Types.{sameElement, sameShape, sameType}
+use Rattle.checks.specs.Formula.{compared, isPermutation, isUnique}
+use Rattle.op_checks.specs.OpChecks.{absChecks, broadcastChecks, clampChecks, compareChecks, compareTypeIs, concatenateChecks, constantChecks, convertChecks, dynamicSliceChecks, iotaChecks, padChecks, reduceChecks, reshapeChecks, reverseChecks, sameTypesChecks, selectChecks, sliceChecks, transposeChecks}
+use Rattle.opcheck.specs.Judged.{brokenBy, checksBy, takenAt, takenByTables}
 use Rattle.scope.specs.Scope.{begins, define, defines, ends, faultOf, forget, inputsFrom, look, nameAt, namesFrom, namesOf, placed, sameAt as sameNameAt, settle, turned, visible}
 use Rattle.places.specs.Places.{countOf, placeOf, typeIn, typeOfPart}
 use Rattle.values.specs.Values.{inputValue, inputsOf, opsOf, resultValue, valueAt, valuesIn}
@@ -63,9 +65,9 @@ computed :
     × (map (λ o. o .kind) (nodesOf sample .ops) ≡ Constant ∷ Reduce Or ∷ [])
     × (map (λ o. o .operands) (nodesOf sample .ops) ≡ [] ∷ (0 ∷ 1 ∷ []) ∷ [])
     × (map (λ o. o .values) (nodesOf sample .ops) ≡ (0 ∷ []) ∷ [] ∷ [])
-    × (map (λ o. o .first) (nodesOf sample .ops) ≡ [] ∷ (0 ∷ []) ∷ [])
+    × (map (λ o. o .attributes .dimensions) (nodesOf sample .ops) ≡ [] ∷ (pos 0 ∷ []) ∷ [])
     × (nodesOf sample .returns ≡ 2 ∷ [])
     -- 5 at `%z`: "op by op names (5, 6), 7, 8"
     × (verdict full ≡ refuse 5 73 0)
-unfolding sample full firstWhere inComment inRun isDigit isLetter isSigil isSign isSpace runEnd runFrom skipEnd skipFrom startsWith colonEnd floatEnd fractionEnd integerEnd moreEnd parameterEnd parametersEnd quantizedEnd scientificEnd signEnd storageEnd elementEnd typeClose byteEnd complexEnd digitsEnd shapeEnd shapeFrom sizeNext wordEnd lexeme markToken nameEnd nameToken plainWord quoteToken signToken tensorToken tokenAt wordToken nameBytes sameBytes sameName wordIs digitsFrom inType magnitudeOf numberIn numberOf allFit countOfByte dimensionsFrom elementNamed foreign typeSizePassed typeAfter typeOf typed widthNamed grammar cell step leafKinds matches kindOfToken markKind nameKind quotedKind tokenKind wordKind readings readingsFrom readingsOf findAttribute findChoice findChoiceKind findOp placeIn same slotIn attributeKind attributeNames attributes choiceKind choiceKindNames choiceKinds choiceNames choices opNames ops rowAt saidAt operandTaken resultTaken takes earliest refusalAt textRefusal unknown among firstPassed largeNumber longList longName manyElements manyItems manyOps passes sizePassed typePassed afterToken counts depthAfterRole elementsAt itemNumber itemsAfter opsAfter addedTo bodyAt depthAfterPart noParts noted opAt partOf partsAt partsFrom partsOf beginsOp begun inHeader namesOp namingAfter noProgram outlined programFrom programOf choiceAt choiceForm closeFrom denseAttribute endsLiteral formAt goesOn noNumbers numberAt numbersAt numbersFrom patternAt tokenAfter withNumber wordForm andThen before booleanOf denseAt denseValue itemsAt literalOf markAt oneAt sameElements everywhere firstFailing dimTest isFirst isIn keptBelow keptIs allTypes sameButOne sameElement sameShape sameType sumOfDims typeTest below ceilingIs inOrder nonNegative paddedIs positive absConstraints broadcastConstraints clampConstraints compareConstraints compareTypeIs concatenateConstraints constantConstraints convertConstraints dynamicSliceConstraints iotaConstraints padConstraints reduceConstraints reshapeConstraints reverseConstraints sameTypesConstraints selectConstraints sliceConstraints transposeConstraints brokenBy constraintsBy takenAt takenByTables begins define defines ends forget inputsFrom look nameAt namesFrom namesOf placed sameNameAt settle turned visible countOf placeOf typeIn typeOfPart inputValue inputsOf opsOf resultValue valueAt valuesIn faultOf inputsFault knownNames namesFault attributeFits attributeOf attributesFit attributesOf choiceFits choiceOf denseFits denseType kindFits nameOf neededAt numbersBy numbersOf stands standsAt argumentType asFirst bodyCounted bodyFits bodyRow formed hasCount innerOp isReducer onBoth oneType opCounted operandIs returnsIt rowNamed arityOf bodiesFit bodyType inTable opJudged operandTyped operandsTyped operationOf resultsAre returnJudged returnedAt returnsHeader rowOf typedOp typedReturn writtenTypes valueNamed byName byOp opRefusal opsFrom programRefusal typingOf verdict directionAt elementsOf inputTypes kindOf nodeAt nodesIn nodesOf operandsOf reducerAt typesOf
+unfolding sample full firstWhere inComment inRun isDigit isLetter isSigil isSign isSpace runEnd runFrom skipEnd skipFrom startsWith colonEnd floatEnd fractionEnd integerEnd moreEnd parameterEnd parametersEnd quantizedEnd scientificEnd signEnd storageEnd elementEnd typeClose byteEnd complexEnd digitsEnd shapeEnd shapeFrom sizeNext wordEnd lexeme markToken nameEnd nameToken plainWord quoteToken signToken tensorToken tokenAt wordToken nameBytes sameBytes sameName wordIs digitsFrom inType magnitudeOf numberIn numberOf allFit countOfByte dimensionsFrom elementNamed foreign typeSizePassed typeAfter typeOf typed widthNamed grammar cell step leafKinds matches kindOfToken markKind nameKind quotedKind tokenKind wordKind readings readingsFrom readingsOf findAttribute findChoice findChoiceKind findOp placeIn same slotIn attributeKind attributeNames attributes choiceKind choiceKindNames choiceKinds choiceNames choices opNames ops rowAt saidAt operandTaken resultTaken takes earliest refusalAt textRefusal unknown among firstPassed largeNumber longList longName manyElements manyItems manyOps passes sizePassed typePassed afterToken counts depthAfterRole elementsAt itemNumber itemsAfter opsAfter addedTo bodyAt depthAfterPart noParts noted opAt partOf partsAt partsFrom partsOf beginsOp begun inHeader namesOp namingAfter noProgram outlined programFrom programOf choiceAt choiceForm closeFrom denseAttribute endsLiteral formAt goesOn noNumbers numberAt numbersAt numbersFrom patternAt tokenAfter withNumber wordForm andThen before booleanOf denseAt denseValue itemsAt literalOf markAt oneAt sameElements everywhere firstFailing dimTest sameElement sameShape sameType absChecks broadcastChecks clampChecks compareChecks compareTypeIs concatenateChecks constantChecks convertChecks dynamicSliceChecks iotaChecks padChecks reduceChecks reshapeChecks reverseChecks sameTypesChecks selectChecks sliceChecks transposeChecks brokenBy checksBy compared isPermutation isUnique takenAt takenByTables begins define defines ends forget inputsFrom look nameAt namesFrom namesOf placed sameNameAt settle turned visible countOf placeOf typeIn typeOfPart inputValue inputsOf opsOf resultValue valueAt valuesIn faultOf inputsFault knownNames namesFault attributeFits attributeOf attributesFit attributesOf choiceFits choiceOf denseFits denseType kindFits nameOf neededAt numbersBy numbersOf stands standsAt argumentType asFirst bodyCounted bodyFits bodyRow formed hasCount innerOp isReducer onBoth oneType opCounted operandIs returnsIt rowNamed arityOf bodiesFit bodyType inTable opJudged operandTyped operandsTyped operationOf resultsAre returnJudged returnedAt returnsHeader rowOf typedOp typedReturn writtenTypes valueNamed byName byOp opRefusal opsFrom programRefusal typingOf verdict directionAt elementsOf inputTypes kindOf nodeAt nodesIn nodesOf operandsOf reducerAt typesOf isAttributeNumber patternIn slotFor
 computed = (refl, refl, refl, refl, refl, refl, refl, refl)

@@ -1,9 +1,9 @@
 -- The program of a text as evaluating and free runs take it: each op by its class with its types, attributes and operands, a value by its number.
 -- Assumes nothing.
 use Prim.Native.Nat.{ℕ, _+_}
-use mathlib.Core.List.{List}
+use mathlib.Core.List.{List, []}
 use lib.ListN.{getD}
-use Rattle.lists.specs.Lists.{tab}
+use Rattle.lists.specs.Lists.{pick, tab}
 use Rattle.run.specs.Run.{Program}
 use Rattle.scalar.specs.declared.Body.{Body}
 use Rattle.scalar.specs.declared.Body.the-variants.{Add}
@@ -24,7 +24,7 @@ use Rattle.places.specs.Places.{operandName, bodyOpen, placeOf, typeIn}
 use Rattle.values.specs.declared.Value.{Value}
 use Rattle.values.specs.declared.Values.{Values}
 use Rattle.values.specs.Values.{noValue, opsOf, valuesIn}
-use Rattle.attributes.specs.Attributes.{nameOf, choiceOf}
+use Rattle.attributes.specs.Attributes.{stands, nameOf, choiceOf}
 use Rattle.bodies.specs.Bodies.{bodyRow}
 use Rattle.operands.specs.Operands.{valueNamed, arityOf}
 use Rattle.typing.specs.Typing.{rowOf, operationOf}
@@ -43,12 +43,12 @@ unfoldable pub kindOf : List ℕ → Parts → Kind
 kindOf text op =
     kindBy (directionAt (choiceOf text op comparisonDirection)) (reducerAt (bodyRow text (placeOf op bodyOpen 0))) (rowOf text op .class)
 
--- the elements of a constant's dense value
+-- the elements of a constant's dense value; none of an op without one
 unfoldable pub elementsOf : List ℕ → Parts → Tensor
 elementsOf text op =
     let c = denseAt text (nameOf text op value) in
     let t = typeIn text (c .ty) in
-    denseValue (t .element) (dimsOf (t .shape)) text (c .literal) .elements
+    pick (stands text op value) (denseValue (t .element) (dimsOf (t .shape)) text (c .literal) .elements) []
 
 -- the numbers of the values that its operands name, n values being defined before
 unfoldable pub operandsOf : List ℕ → Parts → List Value → ℕ → List ℕ

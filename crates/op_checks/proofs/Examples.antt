@@ -8,10 +8,8 @@ use lib.IntN.{ℤ, pos}
 use Rattle.lists.specs.Lists.{firstWhere}
 use Rattle.element.specs.declared.ElementType.{ElementType}
 use Rattle.element.specs.declared.ElementType.the-variants.{I1, I8, I16, U8}
-use Rattle.dimrules.specs.Count.{firstFailing, everywhere}
 use Rattle.dimrules.specs.Whole.{numberOf}
-use Rattle.dimrules.specs.Dims.{dimTest}
-use Rattle.dimrules.specs.Types.{sameElement, sameShape, sameType}
+use Rattle.dimrules.specs.Types.{sameElement}
 use Rattle.dimrules.specs.declared.TensorType.{TensorType}
 use Rattle.optable.specs.Names.{same, placeIn}
 use Rattle.optable.specs.Table.{choices, choiceNames}
@@ -104,7 +102,7 @@ cut starts size r = brokenNumber (dynamicSliceChecks (tensor I8 (one 4)) starts 
 
 cuts : (cut (tensor U8 [] ∷ []) 1 (one 1) ≡ 0) × (cut [] 1 (one 1) ≡ 2) × (cut (tensor U8 [] ∷ tensor I8 [] ∷ []) 1 (one 1) ≡ 2) × (cut (tensor U8 [] ∷ []) 5 (one 5) ≡ 4)
     × (cut (tensor U8 [] ∷ []) minusOne (one 1) ≡ 4) × (cut (tensor U8 [] ∷ []) 2 (one 1) ≡ 5)
-unfolding cut dynamicSliceChecks compared sameElement sameType sameShape everywhere firstFailing firstWhere dimTest
+unfolding cut dynamicSliceChecks compared sameElement
 cuts = (refl, refl, refl, refl, refl, refl)
 
 -- iota of rank 0 (OP-79); reshape multiplies real sizes (OP-80); abs i8 -> i16 is C2 (OP-66); add i8 -> i1 is C1; reverse; rank 0 in clamp and select (OP-86)
@@ -116,5 +114,5 @@ others : (brokenNumber (iotaChecks (pos 0) (tensor I8 [])) ≡ 1) × (brokenNumb
     × (brokenNumber (reverseChecks (tensor I8 (one 2)) (numbers (one 1)) (tensor I8 (one 2))) ≡ 3)
     × (brokenNumber (clampChecks (tensor I8 []) (tensor I8 (one 2)) (tensor I8 (one 3)) (tensor I8 (one 2))) ≡ 2)
     × (brokenNumber (selectChecks (tensor I1 []) (tensor I8 (one 2)) (tensor I8 (one 2)) (tensor I8 (one 2))) ≡ 0)
-unfolding iotaChecks reshapeChecks absChecks sameTypesChecks reverseChecks clampChecks selectChecks compared sameElement isUnique sameType sameShape everywhere firstFailing firstWhere dimTest
+unfolding iotaChecks reshapeChecks absChecks sameTypesChecks reverseChecks clampChecks selectChecks compared sameElement isUnique
 others = (refl, refl, refl, refl, refl, refl, refl, refl, refl, refl, refl)

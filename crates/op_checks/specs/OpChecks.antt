@@ -14,7 +14,7 @@ use Rattle.element.specs.declared.ElementType.{ElementType}
 use Rattle.shape.specs.Index.{size}
 use Rattle.shape.specs.Dims.{dimsOf}
 use Rattle.dimrules.specs.Whole.{eqZ}
-use Rattle.dimrules.specs.Types.{sameElement, sameType, typeAt}
+use Rattle.dimrules.specs.Types.{sameElement, typeAt}
 use Rattle.dimrules.specs.declared.TensorType.{TensorType}
 use Rattle.optable.specs.Table.{choiceNamed, noChoice}
 use Rattle.checks.specs.Check.{Term, is, Equal, compare, fact, orElse, Check}
@@ -156,7 +156,7 @@ dynamicSliceChecks operand startIndices sliceSizes result =
     -- C2 size(start_indices) = size(slice_sizes) = rank(operand)
     ∷ ((nat (length startIndices) [=] nat (length sliceSizes)) and (nat (length sliceSizes) [=] nat (rank operand)))
     -- C3 same(type(start_indices...))
-    ∷ each (length startIndices) (λ j. fact (sameType (typeAt startIndices 0) (typeAt startIndices j)))
+    ∷ each (length startIndices) (λ j. whole (sameTypes (typeAt startIndices 0) (typeAt startIndices j)))
     -- C4 0 <= slice_sizes <= shape(operand)
     ∷ ((int (pos 0) [≤] entries sliceSizes) and (entries sliceSizes [≤] entries (shape operand)))
     -- C5 shape(result) = slice_sizes

@@ -2,18 +2,20 @@
 -- Assumes nothing.
 use mathlib.Core.List.{List}
 use mathlib.Core.Bool.{Bool, _&&_}
-use Prim.Native.Nat.{ℕ, _≤_}
+use Prim.Native.Nat.{ℕ, _-_, _≤_}
 use lib.Dec.{leb}
 use Rattle.shape.specs.Dims.{Sized}
 use Rattle.dimrules.specs.Count.{everywhere}
+use Rattle.dimrules.specs.Whole.{numberOf}
 use Rattle.dimrules.specs.Dims.{num}
 use Rattle.dimrules.specs.Types.{typeAt, AllSized}
 use Rattle.optable.specs.Takes.{operandTaken, resultTaken}
 use Rattle.optable.specs.declared.Row.{Row}
 use Rattle.optable.specs.declared.Rule.{Rule}
 use Rattle.optable.specs.declared.Rule.the-variants.{SameTypes, Abs, Broadcast, Clamp, Compare, Concatenate, Constant, Convert, DynamicSlice, Iota, Pad, Reduce, Reshape, Reverse, Select, Slice, Transpose}
-use Rattle.rules.specs.Broken.{firstBroken}
-use Rattle.rules.specs.Constraints.{sameTypesConstraints, absConstraints, constantConstraints, convertConstraints, iotaConstraints, reshapeConstraints, compareConstraints, selectConstraints, clampConstraints, reverseConstraints, transposeConstraints, broadcastConstraints, sliceConstraints, padConstraints, concatenateConstraints, dynamicSliceConstraints, reduceConstraints}
+use Rattle.checks.specs.Check.{Check, brokenNumber}
+use Rattle.checks.specs.Formula.{ints}
+use Rattle.op_checks.specs.OpChecks.{typesFrom, sameTypesChecks, absChecks, constantChecks, convertChecks, iotaChecks, reshapeChecks, compareChecks, selectChecks, clampChecks, reverseChecks, transposeChecks, broadcastChecks, sliceChecks, padChecks, concatenateChecks, dynamicSliceChecks, reduceChecks}
 use Rattle.opcheck.specs.declared.Operation.{Operation}
 
 -- the Inputs table takes operand j
@@ -25,29 +27,29 @@ unfoldable pub takenByTables : Row → Operation → Bool
 takenByTables row o =
     leb (row .least) (o .arity) && leb (o .arity) (row .most) && everywhere (o .arity) (takenAt row o) && resultTaken row (o .result .element)
 
--- the constraints of an op: x, y, z are its first operands; the attributes of its row are a, b, c, where a number alone is the first of its list
-unfoldable pub constraintsBy : Rule → Operation → List Bool
-constraintsBy SameTypes o = sameTypesConstraints (o .types) (o .arity) (o .result)
-constraintsBy Abs o = absConstraints (typeAt (o .types) 0) (o .result)
-constraintsBy Broadcast o = broadcastConstraints (typeAt (o .types) 0) (o .a) (o .result)
-constraintsBy Clamp o = clampConstraints (typeAt (o .types) 0) (typeAt (o .types) 1) (typeAt (o .types) 2) (o .result)
-constraintsBy Compare o = compareConstraints (typeAt (o .types) 0) (typeAt (o .types) 1) (o .choice) (o .result)
-constraintsBy Concatenate o = concatenateConstraints (o .types) (o .arity) (num (o .a) 0) (o .result)
-constraintsBy Constant o = constantConstraints (o .value) (o .result)
-constraintsBy Convert o = convertConstraints (typeAt (o .types) 0) (o .result)
-constraintsBy DynamicSlice o = dynamicSliceConstraints (o .types) (o .arity) (o .a) (o .result)
-constraintsBy Iota o = iotaConstraints (num (o .a) 0) (o .result)
-constraintsBy Pad o = padConstraints (typeAt (o .types) 0) (typeAt (o .types) 1) (o .a) (o .b) (o .c) (o .result)
-constraintsBy Reduce o = reduceConstraints (typeAt (o .types) 0) (typeAt (o .types) 1) (o .left) (o .right) (o .a) (o .result)
-constraintsBy Reshape o = reshapeConstraints (typeAt (o .types) 0) (o .result)
-constraintsBy Reverse o = reverseConstraints (typeAt (o .types) 0) (o .a) (o .result)
-constraintsBy Select o = selectConstraints (typeAt (o .types) 0) (typeAt (o .types) 1) (typeAt (o .types) 2) (o .result)
-constraintsBy Slice o = sliceConstraints (typeAt (o .types) 0) (o .a) (o .b) (o .c) (o .result)
-constraintsBy Transpose o = transposeConstraints (typeAt (o .types) 0) (o .a) (o .result)
+-- 000's constraints of an op: its first operands have 000's names; the attributes of its row are a, b, c, where a number alone is the first of its list
+unfoldable pub checksBy : Rule → Operation → List Check
+checksBy SameTypes o = sameTypesChecks (typesFrom (o .types) 0 (o .arity)) (o .result)
+checksBy Abs o = absChecks (typeAt (o .types) 0) (o .result)
+checksBy Broadcast o = broadcastChecks (typeAt (o .types) 0) (ints (o .a)) (o .result)
+checksBy Clamp o = clampChecks (typeAt (o .types) 0) (typeAt (o .types) 1) (typeAt (o .types) 2) (o .result)
+checksBy Compare o = compareChecks (typeAt (o .types) 0) (typeAt (o .types) 1) (o .choice) (o .result)
+checksBy Concatenate o = concatenateChecks (typesFrom (o .types) 0 (o .arity)) (numberOf (num (o .a) 0)) (o .result)
+checksBy Constant o = constantChecks (o .value) (o .result)
+checksBy Convert o = convertChecks (typeAt (o .types) 0) (o .result)
+checksBy DynamicSlice o = dynamicSliceChecks (typeAt (o .types) 0) (typesFrom (o .types) 1 (o .arity - 1)) (ints (o .a)) (o .result)
+checksBy Iota o = iotaChecks (numberOf (num (o .a) 0)) (o .result)
+checksBy Pad o = padChecks (typeAt (o .types) 0) (typeAt (o .types) 1) (ints (o .a)) (ints (o .b)) (ints (o .c)) (o .result)
+checksBy Reduce o = reduceChecks (typeAt (o .types) 0) (typeAt (o .types) 1) (o .left) (o .right) (ints (o .a)) (o .result)
+checksBy Reshape o = reshapeChecks (typeAt (o .types) 0) (o .result)
+checksBy Reverse o = reverseChecks (typeAt (o .types) 0) (ints (o .a)) (o .result)
+checksBy Select o = selectChecks (typeAt (o .types) 0) (typeAt (o .types) 1) (typeAt (o .types) 2) (o .result)
+checksBy Slice o = sliceChecks (typeAt (o .types) 0) (ints (o .a)) (ints (o .b)) (ints (o .c)) (o .result)
+checksBy Transpose o = transposeChecks (typeAt (o .types) 0) (ints (o .a)) (o .result)
 
--- 01, refusal 8: the op's first broken constraint, 0 for none
+-- 01, refusal 8: the C number of the op's first broken constraint, 0 for none
 unfoldable pub brokenBy : Rule → Operation → ℕ
-brokenBy rule o = firstBroken (constraintsBy rule o)
+brokenBy rule o = brokenNumber (checksBy rule o)
 
 -- what the reader grants of an op: sizes 1, 2, 5 and 6
 pub record ReadSizes (o : Operation) : Type 0 where

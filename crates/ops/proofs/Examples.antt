@@ -7,6 +7,7 @@ use mathlib.Core.Option.{none, some}
 use Prim.Native.Nat.{ℕ, zero, suc, _+_}
 use native.Mathlib.Omega.{arith}
 use lib.ListN.{getD, getElem?}
+use lib.IntN.{ℤ, pos}
 use Rattle.run.specs.Run.{Scoped}
 use Rattle.run.specs.Ways.{languageOf, OrderFree}
 use Rattle.element.proofs.Ends.{zero-value}
@@ -19,13 +20,14 @@ use Rattle.lists.specs.Lists.{firstWhere}
 use Rattle.run.specs.Tree.{Tree, leaf, node, start, element}
 use Rattle.run.specs.Run.{Program, results, stopped, ended, met}
 use Rattle.run.specs.Ways.{evaluation, freeRun}
-use Rattle.element.specs.Types.{valueOf, wrapTo}
+use Rattle.element.specs.Types.{valueOf, wrapTo, slotFor}
 use Rattle.element.specs.declared.ElementType.the-variants.{I32}
 use Rattle.division.specs.Division.{divisionOf}
 use Rattle.division.specs.declared.Division.the-variants.{Divide}
 use Rattle.scalar.specs.Ops.{addOf}
 use Rattle.scalar.specs.declared.Binary.the-variants.{Add as Plus}
 use Rattle.scalar.specs.declared.Body.the-variants.{Add}
+use Rattle.ops.specs.OpAttributes.{attributesBy}
 use Rattle.ops.specs.declared.Kind.{Kind}
 use Rattle.ops.specs.declared.Kind.the-variants.{Constant, Pairwise, Quotient, Reduce}
 use Rattle.ops.specs.Ops.{TensorType, Node, elementOf, hlo}
@@ -33,9 +35,9 @@ use Rattle.ops.specs.Ops.{TensorType, Node, elementOf, hlo}
 abbrev i32 : List ℕ → TensorType
 i32 dims = record { element = I32; dims = dims }
 
-abbrev op : Kind → List ℕ → List (List ℕ) → List ℕ → List ℕ → List ℕ → Node
-op kind dims from first values operands =
-    record { kind = kind; result = i32 dims; from = types from; first = first; second = []; values = values; operands = operands }
+abbrev op : Kind → List ℕ → List (List ℕ) → List ℤ → List ℕ → List ℕ → Node
+op kind dims from dimensions values operands =
+    record { kind = kind; result = i32 dims; from = types from; attributes = attributesBy kind dimensions []; values = values; operands = operands }
   where
     types : List (List ℕ) → List TensorType
     types [] = []
@@ -54,7 +56,7 @@ abbrev op2 : Node
 op2 = op (Quotient Divide) square (square ∷ square ∷ []) [] [] (3 ∷ 1 ∷ [])
 
 abbrev op3 : Node
-op3 = op (Reduce Add) (2 ∷ []) (square ∷ [] ∷ []) (1 ∷ []) [] (4 ∷ 2 ∷ [])
+op3 = op (Reduce Add) (2 ∷ []) (square ∷ [] ∷ []) (pos 1 ∷ []) [] (4 ∷ 2 ∷ [])
 
 abbrev sums : Program Node
 sums =
@@ -74,7 +76,7 @@ abbrev doubled : List ℕ
 doubled = 2 ∷ 4 ∷ 6 ∷ 8 ∷ 10 ∷ 12 ∷ []
 
 evaluated : evaluation hlo sums (x ∷ two ∷ []) 0 ≡ results (x ∷ two ∷ (0 ∷ []) ∷ doubled ∷ x ∷ (6 ∷ 15 ∷ []) ∷ [])
-unfolding firstWhere addOf divisionOf wrapTo valueOf
+unfolding firstWhere addOf divisionOf wrapTo slotFor valueOf
 evaluated = refl
 
 -- not the text's order, and a tree that uses the start twice
@@ -86,7 +88,7 @@ trees k i = node (node (leaf start) (leaf (element 0))) (node (leaf (element 1))
 
 ran : freeRun hlo sums (x ∷ two ∷ []) order trees 0
     ≡ ended (some x ∷ some two ∷ some (0 ∷ []) ∷ some doubled ∷ some x ∷ some (6 ∷ 15 ∷ []) ∷ [])
-unfolding firstWhere addOf divisionOf wrapTo valueOf
+unfolding firstWhere addOf divisionOf wrapTo slotFor valueOf
 ran = refl
 
 -- a zero divisor at element 1
@@ -94,11 +96,11 @@ abbrev zeros : List ℕ
 zeros = 2 ∷ 0 ∷ 2 ∷ 0 ∷ 2 ∷ 2 ∷ []
 
 refused : evaluation hlo sums (x ∷ zeros ∷ []) 0 ≡ stopped (x ∷ zeros ∷ (0 ∷ []) ∷ doubled ∷ []) 2 1
-unfolding firstWhere addOf divisionOf wrapTo valueOf
+unfolding firstWhere addOf divisionOf wrapTo slotFor valueOf
 refused = refl
 
 met-too : freeRun hlo sums (x ∷ zeros ∷ []) order trees 0 ≡ met (some x ∷ some zeros ∷ none ∷ some doubled ∷ none ∷ none ∷ []) 2 1
-unfolding firstWhere addOf divisionOf wrapTo valueOf
+unfolding firstWhere addOf divisionOf wrapTo slotFor valueOf
 met-too = refl
 
 -- The premises can be met -----------------------------------------------------------------------------------------------------

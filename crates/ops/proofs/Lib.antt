@@ -1,3 +1,4 @@
 pub mod Examples
+pub mod NaturalLaw
 pub mod OpLaw
 pub mod ProgramLaw

@@ -22,7 +22,7 @@ use Rattle.element.proofs.Range.{wrapped-value}
 use Rattle.scalar.specs.Body.{bodyOf, identityOf}
 use Rattle.scalar.specs.declared.Body.{Body}
 use Rattle.scalar.proofs.Reduce.{body-reducible, body-closed}
-use Rattle.shape.specs.Index.{at, size}
+use Rattle.shape.specs.Index.{size}
 use Rattle.maps.specs.Formulas.{gathered, broadcastIndex, transposeIndex, sliceIndex, reverseIndex, padIndex, dynamicIndex}
 use Rattle.maps.proofs.ClosedLaw.{all-gathered, all-reshaped, all-concatenated}
 use Rattle.reduction.specs.Rows.{rowsOf}
@@ -30,6 +30,7 @@ use Rattle.reduction.proofs.RowLaw.{rows-length, row-sizes, all-rows, all-folds
 use Rattle.elementwise.specs.Elementwise.{Tensor, Holds, compareAt, isZero, divisionAt}
 use Rattle.elementwise.proofs.DivideLaw.{value-at}
 use Rattle.elementwise.proofs.HoldsLaw.{tab-holds, unary-holds, binary-holds, compare-holds, convert-holds, select-holds, clamp-holds, divided-holds}
+use Rattle.ops.specs.OpAttributes.{natural, naturals}
 use Rattle.ops.specs.declared.Move.{Move}
 use Rattle.ops.specs.declared.Move.the-variants.{Reshape, BroadcastInDim, Transpose, Slice, Reverse}
 use Rattle.ops.specs.declared.Kind.{Kind}
@@ -82,14 +83,14 @@ module _ (o : Node) (args : List Tensor) (h : HoldAll (o .from) args) where
         sized = length-tab (countOf o) _;
         ranged = all-reshaped (Value (elementOf o)) (zero-value (elementOf o)) (operandDims o 0) (dimsOf o) (getD args 0 []) (values-of 0 g);
       }
-  moved-holds BroadcastInDim g = from-operand (broadcastIndex (o .first) (operandDims o 0)) (operandDims o 0) g
-  moved-holds Transpose g = from-operand (transposeIndex (o .first)) (operandDims o 0) g
-  moved-holds Slice g = from-operand (sliceIndex (o .first) (o .second)) (operandDims o 0) g
-  moved-holds Reverse g = from-operand (reverseIndex (o .first) (dimsOf o)) (dimsOf o) g
+  moved-holds BroadcastInDim g = from-operand (broadcastIndex (naturals (o .attributes .broadcastDimensions)) (operandDims o 0)) (operandDims o 0) g
+  moved-holds Transpose g = from-operand (transposeIndex (naturals (o .attributes .permutation))) (operandDims o 0) g
+  moved-holds Slice g = from-operand (sliceIndex (naturals (o .attributes .startIndices)) (naturals (o .attributes .strides))) (operandDims o 0) g
+  moved-holds Reverse g = from-operand (reverseIndex (naturals (o .attributes .dimensions)) (dimsOf o)) (dimsOf o) g
 
-  rows-of : (body : Body) → Granted o (Reduce body) → All (All (Value (elementOf o))) (rowsOf (o .first) (operandDims o 0) (dimsOf o) (getD args 0 []))
+  rows-of : (body : Body) → Granted o (Reduce body) → All (All (Value (elementOf o))) (rowsOf (naturals (o .attributes .dimensions)) (operandDims o 0) (dimsOf o) (getD args 0 []))
   rows-of body g =
-      all-rows (Value (elementOf o)) (o .first) (operandDims o 0) (dimsOf o) (getD args 0 []) (g .2)
+      all-rows (Value (elementOf o)) (naturals (o .attributes .dimensions)) (operandDims o 0) (dimsOf o) (getD args 0 []) (g .2)
       (hold-at (o .from) args h 0 (g .0 .there) .sized) (values-of 0 (g .0))
 
   -- what an op gives is of its result's type
@@ -108,21 +109,21 @@ module _ (o : Node) (args : List Tensor) (h : HoldAll (o .from) args) where
       given (clamp-holds (elementOf o) (countOf o) (isSingle o 0) (isSingle o 2) (holds-of 0 (g .0)) (holds-of 1 (g .1)) (holds-of 2 (g .2)))
   result-holds (Moved m) g v = given (moved-holds m g)
   result-holds Pad g v =
-      given (gathered-holds (elementOf o) (padIndex (o .first) (o .second) (operandDims o 0)) (operandDims o 0) (dimsOf o) (getD args 0 []) (getD (getD args 1 []) 0 0)
+      given (gathered-holds (elementOf o) (padIndex (o .attributes .edgePaddingLow) (naturals (o .attributes .interiorPadding)) (operandDims o 0)) (operandDims o 0) (dimsOf o) (getD args 0 []) (getD (getD args 1 []) 0 0)
       (values-of 0 (g .0)) (value-at (holds-of 1 (g .1)) 0 (omega arith)))
   result-holds Concatenate g v =
       given (record {
         sized = length-tab (countOf o) _;
-        ranged = all-concatenated (Value (elementOf o)) (zero-value (elementOf o)) (at (o .first) 0) (map (λ t. t .dims) (o .from)) args (dimsOf o)
+        ranged = all-concatenated (Value (elementOf o)) (zero-value (elementOf o)) (natural (o .attributes .dimension)) (map (λ t. t .dims) (o .from)) args (dimsOf o)
             (all-of (elementOf o) (o .from) args h g);
       })
   result-holds DynamicSlice g v =
       given (from-operand (dynamicIndex (operandElement o 1) (map (λ s. getD s 0 0) (drop 1 args)) (operandDims o 0) (dimsOf o)) (operandDims o 0) g)
   result-holds (Reduce body) g v =
-      let rows = rowsOf (o .first) (operandDims o 0) (dimsOf o) (getD args 0 []) in
+      let rows = rowsOf (naturals (o .attributes .dimensions)) (operandDims o 0) (dimsOf o) (getD args 0 []) in
       let start = getD (getD args 1 []) 0 0 in
       given (record {
-        sized = length-map rows (fold (bodyOf body (elementOf o)) start) ∙ rows-length (o .first) (operandDims o 0) (dimsOf o) (getD args 0 []);
+        sized = length-map rows (fold (bodyOf body (elementOf o)) start) ∙ rows-length (naturals (o .attributes .dimensions)) (operandDims o 0) (dimsOf o) (getD args 0 []);
         ranged = all-folds (Value (elementOf o)) (bodyOf body (elementOf o)) start (body-closed body (elementOf o)) (value-at (holds-of 1 (g .1)) 0 (omega arith)) rows
             (rows-of body g);
       })
@@ -133,7 +134,7 @@ module _ (o : Node) (args : List Tensor) (h : HoldAll (o .from) args) where
   gathers-of (Reduce body) g s = (
     subst (MonoidOn (Value (elementOf o)) (bodyOf body (elementOf o))) (sym (s body refl)) (monoid body (elementOf o)),
     rows-of body g,
-    row-sizes (o .first) (operandDims o 0) (dimsOf o) (getD args 0 []),
+    row-sizes (naturals (o .attributes .dimensions)) (operandDims o 0) (dimsOf o) (getD args 0 []),
   )
   gathers-of Constant g s = tt
   gathers-of Iota g s = tt

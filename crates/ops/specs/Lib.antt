@@ -1,2 +1,3 @@
+pub mod OpAttributes
 pub mod Ops
 pub mod Typed

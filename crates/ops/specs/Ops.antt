@@ -11,11 +11,12 @@ use Rattle.run.specs.Ways.{Way, plain, gather, OpSet}
 use Rattle.element.specs.declared.ElementType.{ElementType}
 use Rattle.element.specs.declared.ElementType.the-variants.{I1}
 use Rattle.scalar.specs.Body.{bodyOf}
-use Rattle.shape.specs.Index.{at, size}
+use Rattle.shape.specs.Index.{size}
 use Rattle.maps.specs.Formulas.{reshaped, broadcasted, transposed, sliced, reversed, padded, dynamicSliced, counted}
 use Rattle.maps.specs.Concatenation.{concatenated}
 use Rattle.reduction.specs.Rows.{sliceShape, rowsOf}
 use Rattle.elementwise.specs.Elementwise.{Tensor, unaryAt, binaryAt, compareAt, convertAt, selectAt, clampAt, divided}
+use Rattle.ops.specs.OpAttributes.{OpAttributes, natural, naturals}
 use Rattle.ops.specs.declared.Move.{Move}
 use Rattle.ops.specs.declared.Move.the-variants.{Reshape, BroadcastInDim, Transpose, Slice, Reverse}
 use Rattle.ops.specs.declared.Kind.{Kind}
@@ -30,15 +31,12 @@ pub record TensorType : Type 0 where
 abbrev pub noType : TensorType
 noType = record { element = I1; dims = [] }
 
--- An op of a program: its class, its result's type, its operands' types, its attribute lists, a constant's elements, and the numbers of its
--- operands. `first` is iota_dimension or dimension (one number), broadcast_dimensions, permutation, start_indices, dimensions or
--- edge_padding_low; `second` is strides or interior_padding. Attribute numbers are 64-bit patterns.
+-- An op of a program: its class, its result's type, its operands' types, its attributes, a constant's elements, and the numbers of its operands.
 pub record Node : Type 0 where
   pub kind : Kind
   pub result : TensorType
   pub from : List TensorType
-  pub first : List ℕ
-  pub second : List ℕ
+  pub attributes : OpAttributes
   pub values : Tensor
   pub operands : List ℕ
 
@@ -65,15 +63,15 @@ module _ (o : Node) where
 
   abbrev pub moved : Move → Tensor → Tensor
   moved Reshape x = reshaped (operandDims 0) dimsOf x
-  moved BroadcastInDim x = broadcasted (o .first) (operandDims 0) dimsOf x
-  moved Transpose x = transposed (o .first) (operandDims 0) dimsOf x
-  moved Slice x = sliced (o .first) (o .second) (operandDims 0) dimsOf x
-  moved Reverse x = reversed (o .first) dimsOf x
+  moved BroadcastInDim x = broadcasted (naturals (o .attributes .broadcastDimensions)) (operandDims 0) dimsOf x
+  moved Transpose x = transposed (naturals (o .attributes .permutation)) (operandDims 0) dimsOf x
+  moved Slice x = sliced (naturals (o .attributes .startIndices)) (naturals (o .attributes .strides)) (operandDims 0) dimsOf x
+  moved Reverse x = reversed (naturals (o .attributes .dimensions)) dimsOf x
 
   -- the op of a class on its operands' tensors
   abbrev pub wayOf : Kind → List Tensor → Way Tensor ℕ ℕ
   wayOf Constant args = plain (gives (o .values))
-  wayOf Iota args = plain (gives (counted elementOf (at (o .first) 0) dimsOf))
+  wayOf Iota args = plain (gives (counted elementOf (natural (o .attributes .iotaDimension)) dimsOf))
   wayOf (Elementwise op) args = plain (gives (tab countOf (unaryAt op elementOf (getD args 0 []))))
   wayOf (Pairwise op) args = plain (gives (tab countOf (binaryAt op elementOf (getD args 0 []) (getD args 1 []))))
   wayOf (Quotient op) args = plain (divided op elementOf countOf (getD args 0 []) (getD args 1 []))
@@ -83,15 +81,15 @@ module _ (o : Node) where
   wayOf Clamp args =
       plain (gives (tab countOf (clampAt elementOf (isSingle 0) (isSingle 2) (getD args 0 []) (getD args 1 []) (getD args 2 []))))
   wayOf (Moved m) args = plain (gives (moved m (getD args 0 [])))
-  wayOf Pad args = plain (gives (padded (o .first) (o .second) (operandDims 0) dimsOf (getD args 0 []) (getD (getD args 1 []) 0 0)))
-  wayOf Concatenate args = plain (gives (concatenated (at (o .first) 0) (map (λ t. t .dims) (o .from)) args dimsOf))
+  wayOf Pad args = plain (gives (padded (o .attributes .edgePaddingLow) (naturals (o .attributes .interiorPadding)) (operandDims 0) dimsOf (getD args 0 []) (getD (getD args 1 []) 0 0)))
+  wayOf Concatenate args = plain (gives (concatenated (natural (o .attributes .dimension)) (map (λ t. t .dims) (o .from)) args dimsOf))
   wayOf DynamicSlice args =
       plain (gives (dynamicSliced (operandElement 1) (map (λ s. getD s 0 0) (drop 1 args)) (operandDims 0) dimsOf (getD args 0 [])))
-  wayOf (Reduce body) args = gather (bodyOf body elementOf) (getD (getD args 1 []) 0 0) (rowsOf (o .first) (operandDims 0) dimsOf (getD args 0 []))
+  wayOf (Reduce body) args = gather (bodyOf body elementOf) (getD (getD args 1 []) 0 0) (rowsOf (naturals (o .attributes .dimensions)) (operandDims 0) dimsOf (getD args 0 []))
 
   -- how many elements each result element of a reduction is made of
   abbrev pub rowSizesOf : Kind → List ℕ
-  rowSizesOf (Reduce body) = tab countOf (λ k. size (sliceShape (o .first) (operandDims 0)))
+  rowSizesOf (Reduce body) = tab countOf (λ k. size (sliceShape (naturals (o .attributes .dimensions)) (operandDims 0)))
   rowSizesOf Constant = []
   rowSizesOf Iota = []
   rowSizesOf (Elementwise op) = []

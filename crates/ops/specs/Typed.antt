@@ -17,6 +17,7 @@ use Rattle.scalar.specs.declared.Body.{Body}
 use Rattle.shape.specs.Index.{size}
 use Rattle.reduction.specs.Rows.{ReduceHolds}
 use Rattle.elementwise.specs.Elementwise.{Tensor, Holds, spreadSize}
+use Rattle.ops.specs.OpAttributes.{naturals}
 use Rattle.ops.specs.declared.Move.{Move}
 use Rattle.ops.specs.declared.Move.the-variants.{Reverse}
 use Rattle.ops.specs.declared.Kind.{Kind}
@@ -51,7 +52,7 @@ Granted o (Moved m) = OperandOf o 0 (elementOf o)
 Granted o Pad = OperandOf o 0 (elementOf o) × Operand o 1 (elementOf o) 1
 Granted o Concatenate = All (λ t. t .element ≡ elementOf o) (o .from)
 Granted o DynamicSlice = OperandOf o 0 (elementOf o)
-Granted o (Reduce body) = OperandOf o 0 (elementOf o) × Operand o 1 (elementOf o) 1 × ReduceHolds (o .first) (operandDims o 0) (dimsOf o)
+Granted o (Reduce body) = OperandOf o 0 (elementOf o) × Operand o 1 (elementOf o) 1 × ReduceHolds (naturals (o .attributes .dimensions)) (operandDims o 0) (dimsOf o)
 
 -- tensors of these types, one by one
 abbrev pub HoldAll : List TensorType → List Tensor → Type 0

@@ -3,7 +3,8 @@
 use mathlib.Core.Path.{_≡_, refl}
 use mathlib.Core.List.{[], _∷_}
 use Rattle.scan.specs.Ascii.{ascii}
-use Rattle.element.specs.Types.{valueOf}
+use lib.IntN.{pos, negℤ}
+use Rattle.element.specs.Types.{valueOf, slotFor}
 use Rattle.element.specs.declared.ElementType.the-variants.{I1, I8, I32, U16, U64}
 use Rattle.printed.specs.Printed.{digitsOf, numberText, literalText, itemsText, valueText, shapeText, elementText, printed}
 
@@ -17,9 +18,9 @@ nested : printed I32 (2 ∷ 2 ∷ []) (1 ∷ 2 ∷ 3 ∷ 0 ∷ []) ≡ ascii "de
 unfolding digitsOf numberText literalText itemsText valueText shapeText elementText printed valueOf
 nested = refl
 
--- "Rank 0 takes only the literal"; a signed slot is modulo 2^64
-lowest : printed I8 [] (18446744073709551488 ∷ []) ≡ ascii "dense<-128> : tensor<i8>"
-unfolding digitsOf numberText literalText itemsText valueText shapeText elementText printed valueOf
+-- "Rank 0 takes only the literal"
+lowest : printed I8 [] (slotFor I8 (negℤ (pos 128)) ∷ []) ≡ ascii "dense<-128> : tensor<i8>"
+unfolding digitsOf numberText literalText itemsText valueText shapeText elementText printed valueOf slotFor
 lowest = refl
 
 highest : printed U64 [] (18446744073709551615 ∷ []) ≡ ascii "dense<18446744073709551615> : tensor<ui64>"

@@ -1,19 +1,20 @@
 -- Laws of printing in sequence.
 -- Assumes nothing.
 use mathlib.Core.Path.{_≡_, refl, sym, ap, _∙_}
-use mathlib.Core.Bool.{true}
+use mathlib.Core.Bool.{true, false, false≢true}
 use mathlib.Core.List.{List, [], _∷_, _++_, append-assoc}
 use Prim.Native.Nat.{ℕ, zero, suc, _+_, _-_, _*_, _/_, _%_, _^_, _≤_, _<_}
 use native.Mathlib.Nat.{sub-zero, sub-self, suc-mul, zero-mul, add-zero}
 use native.Mathlib.Omega.{arith}
 use native.Mathlib.Numerals.{add-one}
-use borrow.Author.Tests.{lt-ltb, le-ltb, lt-leb, le-leb, ne-eqb}
+use borrow.Author.Tests.{lt-ltb, le-ltb, ltb-true, ne-eqb}
 use lib.Dec.{eqb}
+use lib.IntN.{ℤ, pos, negsuc, natAbs}
+use lib.Signed.{ltZ}
 use lib.ListN.{length, getD, take, drop, drop-of-length-le}
 use lib.Seq.{drop-cons, drop-drop, getD-drop}
 use Rattle.lists.specs.Lists.{pick}
 use Rattle.scan.specs.Ascii.{ascii}
-use Rattle.element.specs.Types.{read}
 use Rattle.element.specs.declared.ElementType.{ElementType}
 use Rattle.shape.specs.Index.{size, rest}
 use Rattle.shape.proofs.DimensionLaw.{rest-cons, rest-all}
@@ -148,12 +149,13 @@ module _ (e : ElementType) (dims : List ℕ) (rank : ℕ) where
   pub whole-value : (slots : List ℕ) (l : Laid) → lay (valueText e (rest dims rank (rank - rank)) (drop 0 slots)) l ≡ lay (valueText e (take rank dims) slots) l
   whole-value slots l = rw (sub-self rank)
 
--- a signed number: itself, or a sign and 2^64 less it
-module _ (s : ℕ) where
-  pub text-above : s < 2 ^ 63 → numberText (read true 64 s) ≡ decimal s
-  unfolding numberText
-  text-above h = rw (lt-leb (2 ^ 63) s h)
+-- a number by its sign
+pub text-plain : (z : ℤ) → ltZ z (pos 0) ≡ false → numberText z ≡ decimal (natAbs z)
+unfolding numberText
+text-plain (pos n) e = refl
+text-plain (negsuc n) e = absurd (false≢true (sym e))
 
-  pub text-below : 2 ^ 63 ≤ s → numberText (read true 64 s) ≡ 45 ∷ decimal (18446744073709551615 - s + 1)
-  unfolding numberText
-  text-below h = let e : suc (2 ^ 64 - suc s) ≡ 18446744073709551615 - s + 1 = omega arith in rw (le-leb (2 ^ 63) s h, e)
+pub text-negative : (z : ℤ) → ltZ z (pos 0) ≡ true → numberText z ≡ 45 ∷ decimal (natAbs z)
+unfolding numberText
+text-negative (pos n) e = absurd (let z : ⊥ = omega (arith, ltb-true n 0 e) in z)
+text-negative (negsuc n) e = refl

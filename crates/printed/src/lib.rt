@@ -7,12 +7,14 @@ ghost use lib.Dec.{eqb};
 ghost use Rattle.lists.specs.Lists.{pick};
 ghost use Rattle.scan.specs.Ascii.{ascii};
 ghost use Rattle.laid.specs.Laid.{laid, lay, written};
-ghost use Rattle.element.specs.Types.{signedOf, boolOf, read, valueOf};
+ghost use Rattle.element.specs.Types.{signedOf, boolOf, valueOf};
 ghost use Rattle.shape.specs.Index.{size, rest};
 ghost use Rattle.shape.specs.Dims.{dimsOf, Sized, Fills};
 ghost use Rattle.printed.specs.Printed.{digitsOf, numberText, literalText, valueText, shapeText, elementText, printed};
-ghost use mathlib.Core.Bool.{true, _||_};
+ghost use mathlib.Core.Bool.{_||_};
 use element::ElementType;
+use element::is_negative;
+use element::magnitude;
 use laid::put_byte;
 use shape::Shape;
 
@@ -55,24 +57,16 @@ fn put_text(out: &mut [u8], from: usize, word: &[u8]) -> usize
     place
 }
 
-// A number of a signed type.
-fn put_signed(s: u64, out: &mut [u8], from: usize) -> usize
-    ensures { λ r. ⌜ laid r (now (out .exit)) ≡ lay (numberText (read true 64 s)) (laid from (now (out .entry))) ⌝ }
-{
-    if s < 0x8000_0000_0000_0000 {
-        return put_digits(s, 20, out, from);
-    }
-    let p = put_byte(out, from, b'-');
-    put_digits(u64::MAX - s + 1, 20, out, p)
-}
-
+// The number that a slot holds: `-` where it is below 0, and its digits.
 fn put_number(e: ElementType, s: u64, out: &mut [u8], from: usize) -> usize
     ensures { λ r. ⌜ laid r (now (out .exit)) ≡ lay (numberText (valueOf e s)) (laid from (now (out .entry))) ⌝ }
 {
-    if e.is_signed() {
-        return put_signed(s, out, from);
+    let m = magnitude(e, s);
+    if is_negative(e, s) {
+        let p = put_byte(out, from, b'-');
+        return put_digits(m, 20, out, p);
     }
-    put_digits(s, 20, out, from)
+    put_digits(m, 20, out, from)
 }
 
 fn put_boolean(s: u64, out: &mut [u8], from: usize) -> usize

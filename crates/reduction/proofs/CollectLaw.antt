@@ -14,7 +14,8 @@ use Rattle.lists.specs.Lists.{pick, tab}
 use Rattle.lists.proofs.TabLaw.{tab-getD}
 use Rattle.shape.specs.Index.{at, volume, inSix}
 use Rattle.shape.proofs.IndexLaw.{volume-pos}
-use Rattle.reduction.specs.Rows.{countBelow, collect}
+use Rattle.shape.specs.Place.{countBelow}
+use Rattle.reduction.specs.Rows.{collect}
 
 pub count-step : (t : ℕ → Bool) (d : ℕ) → countBelow t (d + 1) ≡ countBelow t d + pick (t d) 1 0
 count-step t d = ap (countBelow t) (add-one d)

@@ -15,7 +15,8 @@ use Rattle.run.specs.Tree.{fold}
 use Rattle.shape.specs.Index.{at, size, ravel, unravel, IndexOf, elementAt}
 use Rattle.shape.proofs.IndexLaw.{length-tabulate, ravel-lt, index-of-unravel}
 use Rattle.shape.proofs.ElementLaw.{element-within}
-use Rattle.reduction.specs.Rows.{isIn, countBelow, sliceShape, keptShape, inserted, rowAt, rowsOf, ReduceHolds}
+use Rattle.shape.specs.Place.{isIn, countBelow}
+use Rattle.reduction.specs.Rows.{sliceShape, keptShape, inserted, rowAt, rowsOf, ReduceHolds}
 use Rattle.reduction.proofs.CollectLaw.{count-lt, count-not, collect-at, length-collect}
 
 -- ---- the fold

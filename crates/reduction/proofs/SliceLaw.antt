@@ -9,7 +9,8 @@ use lib.Seq.{take-at}
 use Rattle.shape.specs.Index.{at, volume}
 use Rattle.shape.specs.Dims.{dimsOf, shapeFrom, Sized}
 use Rattle.shape.specs.declared.Shape.{Shape}
-use Rattle.reduction.specs.Rows.{isIn, sliceShape}
+use Rattle.shape.specs.Place.{isIn}
+use Rattle.reduction.specs.Rows.{sliceShape}
 use Rattle.reduction.proofs.CollectLaw.{collect-few, volume-collect}
 
 pub dims-from : (ds : List ℕ) → dimsOf (shapeFrom ds) ≡ ds

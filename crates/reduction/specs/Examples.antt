@@ -3,7 +3,7 @@
 use mathlib.Core.Path.{_≡_, refl}
 use mathlib.Core.List.{[], _∷_}
 use Rattle.lists.specs.Lists.{firstWhere}
-use Rattle.element.specs.Types.{valueOf, wrapTo}
+use Rattle.element.specs.Types.{valueOf, wrapTo, slotFor}
 use Rattle.element.specs.declared.ElementType.the-variants.{I32, I64}
 use Rattle.scalar.specs.Ops.{addOf}
 use Rattle.scalar.specs.declared.Body.the-variants.{Add}
@@ -11,7 +11,7 @@ use Rattle.reduction.specs.Rows.{rowsOf, reduced}
 
 -- 000's example
 pub reduce-example : reduced Add I64 (1 ∷ []) (1 ∷ 6 ∷ []) (1 ∷ []) 0 (0 ∷ 1 ∷ 2 ∷ 3 ∷ 4 ∷ 5 ∷ []) ≡ 15 ∷ []
-unfolding firstWhere valueOf wrapTo addOf
+unfolding firstWhere valueOf wrapTo slotFor addOf
 reduce-example = refl
 
 -- 01, "Giving a reduction over no elements zero in place of its start value"

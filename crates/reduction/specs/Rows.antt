@@ -3,34 +3,24 @@
 use mathlib.Core.Path.{_≡_}
 use mathlib.Core.List.{List, [], _∷_, _++_, map}
 use mathlib.Core.Bool.{Bool, not}
-use Prim.Native.Nat.{ℕ, zero, suc, _+_, _-_, _≤_}
+use Prim.Native.Nat.{ℕ, zero, suc, _-_, _≤_}
 use lib.ListN.{length}
-use lib.Dec.{ltb}
 use Rattle.lists.specs.Lists.{pick, tab}
 use Rattle.run.specs.Tree.{fold}
 use Rattle.element.specs.declared.ElementType.{ElementType}
 use Rattle.scalar.specs.Body.{bodyOf}
 use Rattle.scalar.specs.declared.Body.{Body}
 use Rattle.shape.specs.Index.{at, tabulate, elementAt}
-use Rattle.shape.specs.Place.{placeIn}
+use Rattle.shape.specs.Place.{isIn, countBelow}
 use Rattle.shape.specs.Dims.{dimsOf, Sized, Fills}
 use Rattle.shape.specs.declared.Shape.{Shape}
-
--- whether d is one of the dimensions that are reduced
-abbrev pub isIn : List ℕ → ℕ → Bool
-isIn dimensions d = ltb (placeIn dimensions d) (length dimensions)
-
--- how many of the numbers below d pass the test
-abbrev pub countBelow : (ℕ → Bool) → ℕ → ℕ
-countBelow t zero = 0
-countBelow t (suc d) = countBelow t d + pick (t d) 1 0
 
 -- the f d that pass the test, for d below n, in ascending order
 abbrev pub collect : ℕ → (ℕ → Bool) → (ℕ → ℕ) → List ℕ
 collect zero t f = []
 collect (suc n) t f = collect n t f ++ pick (t n) (f n ∷ []) []
 
--- the shape of an input slice: the dimensions that are reduced
+-- the shape of an input slice: the dimensions that are reduced, those listed
 abbrev pub sliceShape : List ℕ → List ℕ → List ℕ
 sliceShape dimensions from = collect (length from) (isIn dimensions) (at from)
 

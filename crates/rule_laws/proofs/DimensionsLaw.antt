@@ -17,7 +17,8 @@ use Rattle.lists.proofs.SearchLaw.{first-le, none-passes}
 use Rattle.shape.specs.Place.{placeIn}
 use Rattle.dimrules.specs.Count.{everywhere}
 use Rattle.dimrules.specs.Whole.{numberOf, below}
-use Rattle.dimrules.specs.Dims.{listOf, num, isIn, isFirst, keptBelow, dimTest}
+use Rattle.shape.specs.Place.{isIn}
+use Rattle.dimrules.specs.Dims.{listOf, num, isFirst, keptBelow, dimTest}
 use Rattle.dimrules.specs.declared.Numbers.{Numbers}
 use Rattle.dimrules.specs.declared.Sides.{Sides}
 use Rattle.dimrules.specs.declared.DimTest.the-variants.{Below, Unique}
@@ -123,9 +124,8 @@ module _ (s : Sides) (few : s .a .count ≤ length (s .a .list)) (inside : check
   pub plain-apart : (d e : ℕ) → d < s .a .count → e < s .a .count → numberOf (num (s .a) d) ≡ numberOf (num (s .a) e) → num (s .a) d ≡ num (s .a) e
   plain-apart d e k m q = ap natAbs (sym (plain s inside d k) ∙ q ∙ plain s inside e m)
 
-  pub among-is : (d : ℕ) → memberOf (pos d) (ints (s .a)) ≡ isIn (s .a) d
-  unfolding isIn
-  among-is d = by-test (ltb (placeIn (listOf (s .a)) d) (s .a .count)) refl
+  pub among-is : (d : ℕ) → memberOf (pos d) (ints (s .a)) ≡ isIn (listOf (s .a)) d
+  among-is d = by-test (ltb (placeIn (listOf (s .a)) d) (s .a .count)) refl ∙ ap (ltb (placeIn (listOf (s .a)) d)) (sym long)
     where
       p : ℕ
       p = placeIn (listOf (s .a)) d

@@ -15,7 +15,7 @@ use Rattle.lists.proofs.TabLaw.{length-tab, getD-tab}
 use Rattle.dimrules.specs.Count.{everywhere}
 use Rattle.dimrules.specs.Whole.{numberOf, inOrder}
 use Rattle.dimrules.specs.Dims.{dim, num, dimTest}
-use Rattle.dimrules.specs.Types.{noType, typeAt, sameElement, sameType, typeTest, operandTest, allTypes}
+use Rattle.dimrules.specs.Types.{noType, typeAt, sameElement, typeTest, operandTest, allTypes}
 use Rattle.dimrules.specs.declared.TensorType.{TensorType}
 use Rattle.dimrules.specs.declared.Numbers.{Numbers}
 use Rattle.dimrules.specs.declared.Sides.{Sides}
@@ -26,13 +26,13 @@ use Rattle.rule_laws.specs.Broken.{firstBroken}
 use Rattle.rule_laws.specs.Broken.{sidesOf}
 use Rattle.rule_laws.proofs.Tests.{dynamicSliceTests}
 use Rattle.checks.specs.Check.{Equal, AtMost, fact, checkHolds}
-use Rattle.checks.specs.Formula.{ints, shape, rank, int, nat, entries, _and_, each, _[=]_, _[≤]_}
+use Rattle.checks.specs.Formula.{ints, shape, rank, int, nat, entries, _and_, each, whole, sameTypes, _[=]_, _[≤]_}
 use Rattle.checks.proofs.CheckLaw.{and-true, same-tests, holds-once, holds-each, everywhere-all, everywhere-cong}
 use Rattle.checks.proofs.MeaningLaw.{related, unrelated, and-true-both, both-and-true}
 use Rattle.checks.proofs.ReadingLaw.{nats-true, true-nats, int-list-true, true-int-list, lists-true, true-lists}
 use Rattle.checks.specs.Check.{brokenNumber}
 use Rattle.op_checks.specs.OpChecks.{typesFrom, dynamicSliceChecks}
-use Rattle.checks.proofs.TypeLaw.{_at_, dimOf}
+use Rattle.checks.proofs.TypeLaw.{_at_, dimOf, types-same}
 use Rattle.rule_laws.proofs.AlikeLaw.{alike-first}
 use Rattle.rule_laws.proofs.IntsLaw.{ints-long, ints-at, number-pos}
 
@@ -72,13 +72,13 @@ module _ (types : List TensorType) (arity : ℕ) (sizes : Numbers) (r : TensorTy
   start-at : (j : ℕ) → j < arity - 1 → typeAt starts j ≡ typeAt types (1 + j)
   start-at j h = getD-tab (arity - 1) (λ i. typeAt types (1 + i)) j noType h
 
-  types-same : checkHolds (each (length starts) (λ j. fact (sameType (typeAt starts 0) (typeAt starts j)))) ≡ allTypes SameType 0 (typeAt types 1) types 1 (arity - 1)
+  starts-same : checkHolds (each (length starts) (λ j. whole (sameTypes (typeAt starts 0) (typeAt starts j)))) ≡ allTypes SameType 0 (typeAt types 1) types 1 (arity - 1)
   unfolding allTypes typeTest
-  types-same =
-      holds-each (length starts) (λ j. fact (sameType (typeAt starts 0) (typeAt starts j)))
-      ∙ ap (λ (n : ℕ). everywhere n (λ j. sameType (typeAt starts 0) (typeAt starts j))) starts-long
-      ∙ everywhere-cong (arity - 1) (λ j. sameType (typeAt starts 0) (typeAt starts j)) (operandTest SameType 0 (typeAt types 1) types 1)
-      (λ j h. rw (start-at j h, start-at 0 (omega arith)) refl)
+  starts-same =
+      holds-each (length starts) (λ j. whole (sameTypes (typeAt starts 0) (typeAt starts j)))
+      ∙ ap (λ (n : ℕ). everywhere n (λ j. checkHolds (sameTypes (typeAt starts 0) (typeAt starts j)))) starts-long
+      ∙ everywhere-cong (arity - 1) (λ j. checkHolds (sameTypes (typeAt starts 0) (typeAt starts j))) (operandTest SameType 0 (typeAt types 1) types 1)
+      (λ j h. types-same (typeAt starts 0) (typeAt starts j) ∙ rw (start-at j h, start-at 0 (omega arith)) refl)
 
   within-same : sizes .count ≡ rank x → checkHolds ((int (pos 0) [≤] entries l) and (entries l [≤] entries (shape x))) ≡ everywhere (rank x) (dimTest InOrder sides)
   unfolding dimTest inOrder
@@ -151,7 +151,7 @@ module _ (types : List TensorType) (arity : ℕ) (sizes : Numbers) (r : TensorTy
           sizes-same,
           λ h2.
               let c : sizes .count ≡ rank x = sym (ints-long sizes) ∙ nats-true (length l) (rank x) (and-true-both (nat (length starts) [=] nat (length l)) (nat (length l) [=] nat (rank x)) h2 .1) in (
-                types-same,
+                starts-same,
                 λ h3. (
                   within-same c,
                   λ h4. (

@@ -10,7 +10,8 @@ use lib.IntN.{ℤ, pos, natAbs}
 use borrow.Author.Tests.{eqb-true, eq-eqb}
 use Rattle.lists.proofs.TestLaw.{both-true}
 use Rattle.dimrules.specs.Count.{everywhere}
-use Rattle.dimrules.specs.Dims.{dim, isIn, keptBelow, keptIs, dimTest}
+use Rattle.shape.specs.Place.{isIn}
+use Rattle.dimrules.specs.Dims.{listOf, dim, keptBelow, keptIs, dimTest}
 use Rattle.dimrules.specs.Types.{sameElement}
 use Rattle.dimrules.specs.declared.TensorType.{TensorType}
 use Rattle.dimrules.specs.declared.Numbers.{Numbers}
@@ -61,13 +62,13 @@ module _ (x v a b : TensorType) (p : Numbers) (r : TensorType) (few : p .count �
       (λ e.
       let w = shape-row-true r (length lv) formula e in
       and-true (eqb (rank r) (keptBelow p (rank x))) (everywhere (rank x) old) (eq-eqb (rank r) (keptBelow p (rank x)) (w .0 ∙ leaving-long (ints p) (rank x) ∙ sym (kept (rank x))))
-      (everywhere-all (rank x) old (λ d k. by-list d k (w .1) (isIn p d) refl)))
+      (everywhere-all (rank x) old (λ d k. by-list d k (w .1) (isIn (listOf p) d) refl)))
       (λ e.
       let w = both-true (eqb (rank r) (keptBelow p (rank x))) (everywhere (rank x) old) e in
       true-shape-row r (length lv) formula (eqb-true (rank r) (keptBelow p (rank x)) (w .0) ∙ kept (rank x) ∙ sym (leaving-long (ints p) (rank x))) (λ j i.
       let z = leaving-from (ints p) (rank x) j (rw (leaving-long (ints p) (rank x)) at i) in
-      let q : isIn p (z .0) ≡ false = sym (among-is sides few inside (z .0)) ∙ z .2 in
-      let g : dim (x .shape) (z .0) ≡ dim (r .shape) (keptBelow p (z .0)) = eqb-true _ _ (or-false (isIn p (z .0)) _ q (holds-at (rank x) old (w .1) (z .0) (z .1))) in
+      let q : isIn (listOf p) (z .0) ≡ false = sym (among-is sides few inside (z .0)) ∙ z .2 in
+      let g : dim (x .shape) (z .0) ≡ dim (r .shape) (keptBelow p (z .0)) = eqb-true _ _ (or-false (isIn (listOf p) (z .0)) _ q (holds-at (rank x) old (w .1) (z .0) (z .1))) in
       let y : keptBelow p (z .0) ≡ j = kept (z .0) ∙ z .3 in
       is-equal (dimOf r j) (formula j) (ap (λ (m : ℕ). formula m) (sym (z .3)) ∙ worth (z .0) (z .1) (z .2) ∙ ap (λ (m : ℕ). is (pos m)) (g ∙ ap (dim (r .shape)) y))))
     where
@@ -89,8 +90,8 @@ module _ (x v a b : TensorType) (p : Numbers) (r : TensorType) (few : p .count �
       or-false : (c e : Bool) → c ≡ false → c || e ≡ true → e ≡ true
       or-false c e q h = rw q at h
 
-      by-list : (d : ℕ) → d < rank x → ((j : ℕ) → j < length lv → Compares (is (dimOf r j)) Equal (formula j)) → (c : Bool) → isIn p d ≡ c →
-          isIn p d || eqb (dim (x .shape) d) (dim (r .shape) (keptBelow p d)) ≡ true
+      by-list : (d : ℕ) → d < rank x → ((j : ℕ) → j < length lv → Compares (is (dimOf r j)) Equal (formula j)) → (c : Bool) → isIn (listOf p) d ≡ c →
+          isIn (listOf p) d || eqb (dim (x .shape) d) (dim (r .shape) (keptBelow p d)) ≡ true
       by-list d k f true q = rw q refl
       by-list d k f false q =
           let m : memberOf (pos d) (ints p) ≡ false = among-is sides few inside d ∙ q in

@@ -10,13 +10,12 @@ use lib.ListN.{length}
 use Rattle.lists.specs.Lists.{pick}
 use Rattle.dimrules.specs.Whole.{numberOf}
 use Rattle.dimrules.specs.Dims.{num}
-use Rattle.dimrules.specs.Types.{sameType}
 use Rattle.dimrules.specs.declared.TensorType.{TensorType}
 use Rattle.dimrules.specs.declared.Numbers.{Numbers}
 use Rattle.dimrules.specs.declared.Sides.{Sides}
-use Rattle.checks.specs.Check.{fact, brokenNumber}
+use Rattle.checks.specs.Check.{brokenNumber}
 use Rattle.checks.specs.Formula.{ints, rank}
-use Rattle.checks.proofs.CheckLaw.{holds-once}
+use Rattle.checks.proofs.TypeLaw.{types-same}
 use Rattle.checks.proofs.NumberLaw.{all-hold}
 use Rattle.op_checks.specs.OpChecks.{reverseChecks}
 use Rattle.rule_laws.specs.Broken.{sidesOf, firstBroken}
@@ -52,7 +51,7 @@ module _ (x : TensorType) (p : Numbers) (r : TensorType) (few : p .count ≤ len
   unfolding reverseChecks reverseTests
   reverse-apart apart =
       alike-first (reverseChecks x (ints p) r) (reverseTests x p r) 1 (
-        holds-once (fact (sameType x r)),
+        types-same x r,
         λ h1. (
           unique-same sides few apart,
           λ h2. (

@@ -23,7 +23,7 @@ use Rattle.checks.specs.Formula.{shape, rank, nat, entries, _and_, once, _[=]_,
 use Rattle.checks.proofs.CheckLaw.{and-true, same-tests, holds-and, holds-once, everywhere-all}
 use Rattle.checks.proofs.MeaningLaw.{and-true-both, both-and-true}
 use Rattle.checks.proofs.ReadingLaw.{nats-true, true-nats, lists-true, true-lists}
-use Rattle.checks.proofs.TypeLaw.{_at_, same-element, shapes-same}
+use Rattle.checks.proofs.TypeLaw.{_at_, same-element, shapes-same, types-same}
 use Rattle.op_checks.specs.OpChecks.{typesFrom, allOfType, compareTypeIs, sameTypesChecks, absChecks, constantChecks, convertChecks, reshapeChecks, compareChecks, selectChecks, clampChecks}
 use Rattle.rule_laws.specs.Broken.{firstBroken}
 use Rattle.rule_laws.proofs.AlikeLaw.{alike-first}
@@ -64,7 +64,7 @@ eq-type x y p q = and-true (sameElement x y) (sameShape x y) (eq-element x y p) 
 pub types-chain : (x y z : TensorType) → checkHolds (sameTypes x y and sameTypes y z) ≡ sameType x y && sameType x z
 types-chain x y z =
     holds-and (sameTypes x y) (sameTypes y z)
-    ∙ rw (holds-once (fact (sameType x y)), holds-once (fact (sameType y z)))
+    ∙ rw (types-same x y, types-same y z)
     (same-tests _ _
     (λ e.
     let h = both-true (sameType x y) (sameType y z) e in
@@ -108,7 +108,7 @@ types-alike (suc n) f r e j h = by-place j h (and-true-both (sameTypes (f zero) 
   where
     by-place : (j : ℕ) → j < suc n → (checkHolds (sameTypes (f zero) r) ≡ true) × (checkHolds (allOfType (tab n (λ k. f (suc k))) r) ≡ true) →
         (checkHolds (allOfType (tab n (λ k. f (suc k))) r) ≡ true → (j : ℕ) → j < n → sameType r (f (suc j)) ≡ true) → sameType r (f j) ≡ true
-    by-place zero h b ih = let q = type-eq (f zero) r (sym (holds-once (fact (sameType (f zero) r))) ∙ b .0) in eq-type r (f zero) (sym (q .0)) (sym (q .1))
+    by-place zero h b ih = let q = type-eq (f zero) r (sym (types-same (f zero) r) ∙ b .0) in eq-type r (f zero) (sym (q .0)) (sym (q .1))
     by-place (suc j) h b ih = ih (b .1) j (le-of-suc-le-suc h)
 
 alike-types : (n : ℕ) (f : ℕ → TensorType) (r : TensorType) → ((j : ℕ) → j < n → sameType r (f j) ≡ true) → checkHolds (allOfType (tab n f) r) ≡ true
@@ -116,7 +116,7 @@ alike-types zero f r h = refl
 alike-types (suc n) f r h =
     let q = type-eq r (f zero) (h zero (zero-lt-suc n)) in
     both-and-true (sameTypes (f zero) r) (allOfType (tab n (λ k. f (suc k))) r)
-    (holds-once (fact (sameType (f zero) r)) ∙ eq-type (f zero) r (sym (q .0)) (sym (q .1)))
+    (types-same (f zero) r ∙ eq-type (f zero) r (sym (q .0)) (sym (q .1)))
     (alike-types n (λ k. f (suc k)) r (λ j k. h (suc j) (suc-le-suc k)))
 
 pub same-same-types : (types : List TensorType) (arity : ℕ) (r : TensorType) → brokenNumber (sameTypesChecks (typesFrom types 0 arity) r) ≡ firstBroken (sameTypesTests types arity r)
@@ -137,7 +137,7 @@ same-abs x r = alike-first (absChecks x r) (absTests x r) 1 (shapes-same r x, λ
 
 pub same-constant : (value r : TensorType) → brokenNumber (constantChecks value r) ≡ firstBroken (constantTests value r)
 unfolding constantChecks constantTests
-same-constant value r = alike-first (constantChecks value r) (constantTests value r) 1 (holds-once (fact (sameType value r)), λ h1. tt)
+same-constant value r = alike-first (constantChecks value r) (constantTests value r) 1 (types-same value r, λ h1. tt)
 
 pub same-convert : (x r : TensorType) → brokenNumber (convertChecks x r) ≡ firstBroken (convertTests x r)
 unfolding convertChecks convertTests
@@ -176,7 +176,7 @@ same-clamp min x max r =
         scalar-same max x,
         λ h2. (
           holds-and (sameElements min x) (sameElements x max) ∙ rw (holds-once (fact (sameElement min x)), holds-once (fact (sameElement x max))) refl,
-          λ h3. (holds-once (fact (sameType x r)), λ h4. tt),
+          λ h3. (types-same x r, λ h4. tt),
         ),
       ),
     )

@@ -1,8 +1,7 @@
 -- The first that fails of a list of tests, and what the tests of dimensions read.
 -- Assumes nothing.
-use mathlib.Core.Path.{_≡_}
 use mathlib.Core.List.{List, [], _∷_}
-use mathlib.Core.Bool.{Bool, true}
+use mathlib.Core.Bool.{Bool}
 use Prim.Native.Nat.{ℕ, suc}
 use Rattle.lists.specs.Lists.{pick}
 use Rattle.dimrules.specs.declared.TensorType.{TensorType}
@@ -16,11 +15,6 @@ firstFrom k (c ∷ cs) = pick c (firstFrom (suc k) cs) k
 
 abbrev pub firstBroken : List Bool → ℕ
 firstBroken cs = firstFrom 1 cs
-
--- every test of a list holds
-abbrev pub Holds : List Bool → Type 0
-Holds [] = Unit {0}
-Holds (c ∷ cs) = (c ≡ true) × Holds cs
 
 -- what the tests of dimensions read: of operand x and result r, a number and three attribute lists
 abbrev pub sidesOf : TensorType → TensorType → ℕ → Numbers → Numbers → Numbers → Sides

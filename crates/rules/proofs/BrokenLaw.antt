@@ -9,7 +9,7 @@ use native.Mathlib.Numerals.{add-one}
 use lib.ListN.{length, drop, getD}
 use lib.Seq.{drop-cons}
 use Rattle.lists.specs.Lists.{pick}
-use Rattle.rules.specs.Broken.{firstFrom, firstBroken, Holds}
+use Rattle.rule_laws.specs.Broken.{firstFrom, firstBroken}
 
 pub first-step : (c : List Bool) (k : ℕ) → k < length c → firstFrom (suc k) (drop k c) ≡ pick (getD c k false) (firstFrom (suc (k + 1)) (drop (k + 1) c)) (k + 1)
 first-step c k h = ap (firstFrom (suc k)) (drop-cons c k false h) ∙ rw (add-one k)
@@ -19,6 +19,11 @@ first-end [] zero n h = refl
 first-end [] (suc k) n h = refl
 first-end (x ∷ c) zero n h = absurd (not-suc-le-zero h)
 first-end (x ∷ c) (suc k) n h = first-end c k n (le-of-suc-le-suc h)
+
+-- every test of a list holds
+abbrev pub Holds : List Bool → Type 0
+Holds [] = Unit {0}
+Holds (c ∷ cs) = (c ≡ true) × Holds cs
 
 holds-from : (k : ℕ) (cs : List Bool) → firstFrom (suc k) cs ≡ 0 → Holds cs
 holds-from k [] e = tt

@@ -1,27 +1,25 @@
 -- From a verdict without a broken constraint to the facts that evaluating the op requires.
 -- Assumes nothing.
 use mathlib.Core.Path.{_≡_, refl, sym, ap, _∙_, subst}
-use mathlib.Core.List.{List, [], _∷_}
+use mathlib.Core.List.{List}
 use mathlib.Core.Bool.{Bool, true, false, _&&_, _||_, false≢true}
 use mathlib.Core.Logic.{_⊎_, inl, inr}
 use Prim.Native.Nat.{ℕ, _+_, _-_, _*_, _^_, _≤_, _<_}
 use native.Mathlib.Omega.{arith}
-use lib.ListN.{getD}
 use lib.Dec.{ltb, leb, eqb}
 use lib.IntN.{ℤ, pos, negsuc, _+ℤ_, _*ℤ_}
 use lib.Signed.{leZ, ltZ}
 use borrow.Author.Tests.{leb-true, ltb-true, eqb-true}
 use Rattle.lists.proofs.TestLaw.{both-true}
 use Rattle.lists.specs.Lists.{pick}
-use Rattle.element.specs.declared.ElementType.{ElementType}
-use Rattle.element.specs.declared.ElementType.the-variants.{I1, I8, I16, I32, I64, U8, U16, U32, U64}
 use Rattle.shape.specs.Index.{size}
 use Rattle.shape.specs.Dims.{dimsOf}
 use Rattle.shape.specs.Place.{placeIn}
 use Rattle.dimrules.specs.Count.{everywhere}
 use Rattle.dimrules.specs.Whole.{numberOf, upOf, downOf, eqZ, ceilDiv, below, inOrder, positive, ceilingIs, paddedIs}
-use Rattle.dimrules.specs.Dims.{listOf, dim, num, isIn, isFirst, keptBelow, keptIs, dimTest}
-use Rattle.dimrules.specs.Types.{elementCode, sameElement, sameShape, sameType, sameButOne, shapesOf, typeTest, typeAt, operandTest, allTypes, sumOfDims}
+use Rattle.shape.specs.Place.{isIn}
+use Rattle.dimrules.specs.Dims.{listOf, dim, num, isFirst, keptBelow, keptIs, dimTest}
+use Rattle.dimrules.specs.Types.{sameElement, sameShape, sameType, sameButOne, shapesOf, typeTest, typeAt, operandTest, allTypes, sumOfDims}
 use Rattle.dimrules.specs.declared.TensorType.{TensorType}
 use Rattle.dimrules.specs.declared.Numbers.{Numbers}
 use Rattle.dimrules.specs.declared.Sides.{Sides}
@@ -30,40 +28,18 @@ use Rattle.dimrules.specs.declared.TypeTest.{TypeTest}
 use Rattle.dimrules.specs.declared.TypeTest.the-variants.{SameElement, SameType, SameButOne}
 use Rattle.dimrules.proofs.CountLaw.{holds-at}
 use Rattle.dimrules.proofs.WholeLaw.{pad-sums}
-use Rattle.rules.specs.Broken.{firstBroken}
-use Rattle.rules.specs.Constraints.{sidesOf, sameTypesConstraints, absConstraints, constantConstraints, convertConstraints, iotaConstraints, reshapeConstraints, compareConstraints, selectConstraints, clampConstraints, reverseConstraints, transposeConstraints, broadcastConstraints, sliceConstraints, padConstraints, concatenateConstraints, dynamicSliceConstraints, reduceConstraints}
+use Rattle.rule_laws.specs.Broken.{firstBroken, sidesOf}
+use Rattle.rule_laws.proofs.Tests.{sameTypesTests, absTests, constantTests, convertTests, iotaTests, reshapeTests, compareTests, selectTests, clampTests, reverseTests, transposeTests, broadcastTests, sliceTests, padTests, concatenateTests, dynamicSliceTests, reduceTests}
 use Rattle.rules.specs.Facts.{AlikeShapes, AlikeTypes, DimensionsBelow, SameTypesHolds, CompareHolds, SelectHolds, ClampHolds, ReshapeHolds, ReverseHolds, TransposeHolds, BroadcastHolds, SliceHolds, PadHolds, ConcatenateHolds, DynamicSliceHolds, ReduceHolds}
+use Rattle.checks.proofs.MeaningLaw.{or-true}
+use Rattle.checks.proofs.TypeLaw.{same-element}
 use Rattle.rules.proofs.BrokenLaw.{holds}
-
-or-true : (a b : Bool) → a || b ≡ true → (a ≡ true) ⊎ (b ≡ true)
-or-true true b e = inl refl
-or-true false b e = inr e
 
 either-way : {A B C D : Type 0} → (A → C) → (B → D) → A ⊎ B → C ⊎ D
 either-way f g (inl a) = inl (f a)
 either-way f g (inr b) = inr (g b)
 
 -- ---- types
-
-elementOf : ℕ → ElementType
-elementOf n = getD (I1 ∷ I8 ∷ I16 ∷ I32 ∷ I64 ∷ U8 ∷ U16 ∷ U32 ∷ U64 ∷ []) n I1
-
-back : (e : ElementType) → elementOf (elementCode e) ≡ e
-unfolding elementOf
-back I1 = refl
-back I8 = refl
-back I16 = refl
-back I32 = refl
-back I64 = refl
-back U8 = refl
-back U16 = refl
-back U32 = refl
-back U64 = refl
-
-pub same-element : (x y : TensorType) → sameElement x y ≡ true → x .element ≡ y .element
-unfolding sameElement
-same-element x y e =
-    sym (back (x .element)) ∙ ap elementOf (eqb-true (elementCode (x .element)) (elementCode (y .element)) e) ∙ back (y .element)
 
 pub same-shape : (x y : TensorType) → sameShape x y ≡ true → AlikeShapes (x .shape) (y .shape)
 unfolding sameShape dimTest
@@ -106,13 +82,13 @@ pub order-true : (s l n : ℕ) → inOrder s l n ≡ true → (s ≤ l) × (l �
 unfolding inOrder
 order-true s l n e = order-from s l n (ltb s (2 ^ 63)) (ltb l (2 ^ 63)) e
 
-positive-from : (w : ℕ) (a : Bool) → ltZ (pos 0) (pick a (pos w) (negsuc (2 ^ 64 - 1 - w))) ≡ true → 0 < w
-positive-from w true e = ltb-true 0 w e
-positive-from w false e = absurd (false≢true e)
+positive-from : (w : ℕ) (a : Bool) → ltb w (2 ^ 63) ≡ a → ltZ (pos 0) (pick a (pos w) (negsuc (2 ^ 64 - 1 - w))) ≡ true → (0 < w) × (w < 2 ^ 63)
+positive-from w true q e = (ltb-true 0 w e, ltb-true w (2 ^ 63) q)
+positive-from w false q e = absurd (false≢true e)
 
-pub positive-true : (w : ℕ) → positive w ≡ true → 0 < w
+pub positive-true : (w : ℕ) → positive w ≡ true → (0 < w) × (w < 2 ^ 63)
 unfolding positive
-positive-true w e = positive-from w (ltb w (2 ^ 63)) e
+positive-true w e = positive-from w (ltb w (2 ^ 63)) refl e
 
 pub ceiling-true : (s l stride m : ℕ) → ceilingIs s l stride m ≡ true → m ≡ ceilDiv (l - s) stride
 unfolding ceilingIs
@@ -150,61 +126,61 @@ listed-below s count k q b u =
 
 -- ---- classes of ops
 
-pub same-types-law : (types : List TensorType) (arity : ℕ) (r : TensorType) → firstBroken (sameTypesConstraints types arity r) ≡ 0 → SameTypesHolds types arity r
-unfolding sameTypesConstraints allTypes typeTest
+pub same-types-law : (types : List TensorType) (arity : ℕ) (r : TensorType) → firstBroken (sameTypesTests types arity r) ≡ 0 → SameTypesHolds types arity r
+unfolding sameTypesTests allTypes typeTest
 same-types-law types arity r e =
-    let h = holds (sameTypesConstraints types arity r) e in
+    let h = holds (sameTypesTests types arity r) e in
     record {
       operands = λ j l.
           same-type r (typeAt types j)
           (subst (λ (i : ℕ). sameType r (typeAt types i) ≡ true) (let z : 0 + j ≡ j = omega arith in z) (holds-at arity (operandTest SameType 0 r types 0) (h .0) j l));
     }
 
-pub abs-law : (x r : TensorType) → firstBroken (absConstraints x r) ≡ 0 → AlikeTypes r x
-unfolding absConstraints
+pub abs-law : (x r : TensorType) → firstBroken (absTests x r) ≡ 0 → AlikeTypes r x
+unfolding absTests
 abs-law x r e =
-    let h = holds (absConstraints x r) e in
+    let h = holds (absTests x r) e in
     record { element = same-element r x (h .1 .0); shape = same-shape r x (h .0) }
 
-pub constant-law : (value r : TensorType) → firstBroken (constantConstraints value r) ≡ 0 → AlikeTypes value r
-unfolding constantConstraints
-constant-law value r e = same-type value r (holds (constantConstraints value r) e .0)
+pub constant-law : (value r : TensorType) → firstBroken (constantTests value r) ≡ 0 → AlikeTypes value r
+unfolding constantTests
+constant-law value r e = same-type value r (holds (constantTests value r) e .0)
 
-pub convert-law : (x r : TensorType) → firstBroken (convertConstraints x r) ≡ 0 → AlikeShapes (x .shape) (r .shape)
-unfolding convertConstraints
-convert-law x r e = same-shape x r (holds (convertConstraints x r) e .0)
+pub convert-law : (x r : TensorType) → firstBroken (convertTests x r) ≡ 0 → AlikeShapes (x .shape) (r .shape)
+unfolding convertTests
+convert-law x r e = same-shape x r (holds (convertTests x r) e .0)
 
-pub iota-law : (dimension : ℕ) (r : TensorType) → firstBroken (iotaConstraints dimension r) ≡ 0 → dimension < r .shape .rank
-unfolding iotaConstraints
-iota-law dimension r e = below-true dimension (r .shape .rank) (holds (iotaConstraints dimension r) e .0)
+pub iota-law : (dimension : ℕ) (r : TensorType) → firstBroken (iotaTests dimension r) ≡ 0 → dimension < r .shape .rank
+unfolding iotaTests
+iota-law dimension r e = below-true dimension (r .shape .rank) (holds (iotaTests dimension r) e .0)
 
-pub reshape-law : (x r : TensorType) → firstBroken (reshapeConstraints x r) ≡ 0 → ReshapeHolds x r
-unfolding reshapeConstraints
+pub reshape-law : (x r : TensorType) → firstBroken (reshapeTests x r) ≡ 0 → ReshapeHolds x r
+unfolding reshapeTests
 reshape-law x r e =
-    let h = holds (reshapeConstraints x r) e in
+    let h = holds (reshapeTests x r) e in
     record { element = same-element x r (h .0); sizes = eqb-true (size (dimsOf (x .shape))) (size (dimsOf (r .shape))) (h .1 .0) }
 
-pub compare-law : (x y : TensorType) (compareType : ℕ) (r : TensorType) → firstBroken (compareConstraints x y compareType r) ≡ 0 → CompareHolds x y r
-unfolding compareConstraints
+pub compare-law : (x y : TensorType) (compareType : ℕ) (r : TensorType) → firstBroken (compareTests x y compareType r) ≡ 0 → CompareHolds x y r
+unfolding compareTests
 compare-law x y compareType r e =
-    let h = holds (compareConstraints x y compareType r) e in
+    let h = holds (compareTests x y compareType r) e in
     let s = both-true (sameShape x y) (sameShape x r) (h .1 .0) in
     record { element = same-element x y (h .0); operands = same-shape x y (s .0); result = same-shape x r (s .1) }
 
 scalar-or-alike : (p x : TensorType) → eqb (p .shape .rank) 0 || sameShape p x ≡ true → (p .shape .rank ≡ 0) ⊎ AlikeShapes (p .shape) (x .shape)
 scalar-or-alike p x e = either-way (eqb-true (p .shape .rank) 0) (same-shape p x) (or-true (eqb (p .shape .rank) 0) (sameShape p x) e)
 
-pub select-law : (pred t f r : TensorType) → firstBroken (selectConstraints pred t f r) ≡ 0 → SelectHolds pred t f r
-unfolding selectConstraints
+pub select-law : (pred t f r : TensorType) → firstBroken (selectTests pred t f r) ≡ 0 → SelectHolds pred t f r
+unfolding selectTests
 select-law pred t f r e =
-    let h = holds (selectConstraints pred t f r) e in
+    let h = holds (selectTests pred t f r) e in
     let s = both-true (sameType t f) (sameType t r) (h .1 .0) in
     record { predicate = scalar-or-alike pred t (h .0); choices = same-type t f (s .0); result = same-type t r (s .1) }
 
-pub clamp-law : (min x max r : TensorType) → firstBroken (clampConstraints min x max r) ≡ 0 → ClampHolds min x max r
-unfolding clampConstraints
+pub clamp-law : (min x max r : TensorType) → firstBroken (clampTests min x max r) ≡ 0 → ClampHolds min x max r
+unfolding clampTests
 clamp-law min x max r e =
-    let h = holds (clampConstraints min x max r) e in
+    let h = holds (clampTests min x max r) e in
     let s = both-true (sameElement min x) (sameElement x max) (h .1 .1 .0) in
     record {
       least = scalar-or-alike min x (h .0);
@@ -214,17 +190,17 @@ clamp-law min x max r e =
       result = same-type x r (h .1 .1 .1 .0);
     }
 
-pub reverse-law : (x : TensorType) (dimensions : Numbers) (r : TensorType) → firstBroken (reverseConstraints x dimensions r) ≡ 0 → ReverseHolds x dimensions r
-unfolding reverseConstraints
+pub reverse-law : (x : TensorType) (dimensions : Numbers) (r : TensorType) → firstBroken (reverseTests x dimensions r) ≡ 0 → ReverseHolds x dimensions r
+unfolding reverseTests
 reverse-law x dimensions r e =
-    let h = holds (reverseConstraints x dimensions r) e in
+    let h = holds (reverseTests x dimensions r) e in
     let s = sidesOf x r (r .shape .rank) dimensions dimensions dimensions in
     record { types = same-type x r (h .0); listed = listed-below s (dimensions .count) (r .shape .rank) refl (h .1 .1 .0) (h .1 .0) }
 
-pub transpose-law : (x : TensorType) (permutation : Numbers) (r : TensorType) → firstBroken (transposeConstraints x permutation r) ≡ 0 → TransposeHolds x permutation r
-unfolding transposeConstraints dimTest
+pub transpose-law : (x : TensorType) (permutation : Numbers) (r : TensorType) → firstBroken (transposeTests x permutation r) ≡ 0 → TransposeHolds x permutation r
+unfolding transposeTests dimTest
 transpose-law x permutation r e =
-    let h = holds (transposeConstraints x permutation r) e in
+    let h = holds (transposeTests x permutation r) e in
     let s = sidesOf x r (x .shape .rank) permutation permutation permutation in
     let n = x .shape .rank in
     let p = both-true (eqb (permutation .count) n && everywhere n (dimTest Below s)) (everywhere n (dimTest Unique s)) (h .1 .0) in
@@ -238,10 +214,10 @@ transpose-law x permutation r e =
       sizes = λ d l. eqb-true (dim (r .shape) d) (dim (x .shape) (num permutation d)) (holds-at n (dimTest Moved s) (w .1) d l);
     }
 
-pub broadcast-law : (x : TensorType) (dimensions : Numbers) (r : TensorType) → firstBroken (broadcastConstraints x dimensions r) ≡ 0 → BroadcastHolds x dimensions r
-unfolding broadcastConstraints dimTest
+pub broadcast-law : (x : TensorType) (dimensions : Numbers) (r : TensorType) → firstBroken (broadcastTests x dimensions r) ≡ 0 → BroadcastHolds x dimensions r
+unfolding broadcastTests dimTest
 broadcast-law x dimensions r e =
-    let h = holds (broadcastConstraints x dimensions r) e in
+    let h = holds (broadcastTests x dimensions r) e in
     let s = sidesOf x r (r .shape .rank) dimensions dimensions dimensions in
     record {
       element = same-element x r (h .0);
@@ -259,10 +235,10 @@ counts a b c n e =
     let g = both-true (eqb (a .count) n) (eqb (b .count) n) (h .0) in
     (eqb-true (a .count) n (g .0), eqb-true (b .count) n (g .1), eqb-true (c .count) n (h .1))
 
-pub slice-law : (x : TensorType) (start limit strides : Numbers) (r : TensorType) → firstBroken (sliceConstraints x start limit strides r) ≡ 0 → SliceHolds x start limit strides r
-unfolding sliceConstraints dimTest
+pub slice-law : (x : TensorType) (start limit strides : Numbers) (r : TensorType) → firstBroken (sliceTests x start limit strides r) ≡ 0 → SliceHolds x start limit strides r
+unfolding sliceTests dimTest
 slice-law x start limit strides r e =
-    let h = holds (sliceConstraints x start limit strides r) e in
+    let h = holds (sliceTests x start limit strides r) e in
     let s = sidesOf x r 0 start limit strides in
     let n = x .shape .rank in
     let w = both-true (eqb (r .shape .rank) n) (everywhere n (dimTest Ceiling s)) (h .1 .1 .1 .1 .0) in
@@ -271,14 +247,15 @@ slice-law x start limit strides r e =
       counts = counts start limit strides n (h .1 .0);
       rank = eqb-true (r .shape .rank) n (w .0);
       order = λ d l. order-true (num start d) (num limit d) (dim (x .shape) d) (holds-at n (dimTest InOrder s) (h .1 .1 .0) d l);
-      positive = λ d l. positive-true (num strides d) (holds-at n (dimTest Positive s) (h .1 .1 .1 .0) d l);
+      positive = λ d l. positive-true (num strides d) (holds-at n (dimTest Positive s) (h .1 .1 .1 .0) d l) .0;
+      small = λ d l. positive-true (num strides d) (holds-at n (dimTest Positive s) (h .1 .1 .1 .0) d l) .1;
       sizes = λ d l. ceiling-true (num start d) (num limit d) (num strides d) (dim (r .shape) d) (holds-at n (dimTest Ceiling s) (w .1) d l);
     }
 
-pub pad-law : (x v : TensorType) (low high interior : Numbers) (r : TensorType) → firstBroken (padConstraints x v low high interior r) ≡ 0 → PadHolds x v low high interior r
-unfolding padConstraints dimTest
+pub pad-law : (x v : TensorType) (low high interior : Numbers) (r : TensorType) → firstBroken (padTests x v low high interior r) ≡ 0 → PadHolds x v low high interior r
+unfolding padTests dimTest
 pad-law x v low high interior r e =
-    let h = holds (padConstraints x v low high interior r) e in
+    let h = holds (padTests x v low high interior r) e in
     let s = sidesOf x r 0 low high interior in
     let n = x .shape .rank in
     let t = both-true (sameElement x v) (sameElement x r) (h .0) in
@@ -315,11 +292,11 @@ same-but-one x y k e =
     other d f (inl q) = absurd (f (eqb-true d k q))
     other d f (inr q) = eqb-true (dim (x .shape) d) (dim (y .shape) d) q
 
-pub concatenate-law : (types : List TensorType) (arity dimension : ℕ) (r : TensorType) → firstBroken (concatenateConstraints types arity dimension r) ≡ 0 →
+pub concatenate-law : (types : List TensorType) (arity dimension : ℕ) (r : TensorType) → firstBroken (concatenateTests types arity dimension r) ≡ 0 →
     ConcatenateHolds types arity dimension r
-unfolding concatenateConstraints allTypes typeTest
+unfolding concatenateTests allTypes typeTest
 concatenate-law types arity dimension r e =
-    let h = holds (concatenateConstraints types arity dimension r) e in
+    let h = holds (concatenateTests types arity dimension r) e in
     let x = typeAt types 0 in
     let w = both-true (sameButOne x r dimension) (eqb (dim (r .shape) dimension) (sumOfDims types arity dimension)) (h .1 .1 .1 .1 .1 .0) in
     let b = same-but-one x r dimension (w .0) in
@@ -341,11 +318,11 @@ concatenate-law types arity dimension r e =
     input : everywhere arity (operandTest SameButOne dimension (typeAt types 0) types 0) ≡ true → (j : ℕ) → j < arity → AlikeButOne (typeAt types 0) (typeAt types j) dimension
     input q j l = same-but-one (typeAt types 0) (typeAt types j) dimension (at-place SameButOne dimension q j l)
 
-pub dynamic-slice-law : (types : List TensorType) (arity : ℕ) (sizes : Numbers) (r : TensorType) → firstBroken (dynamicSliceConstraints types arity sizes r) ≡ 0 →
+pub dynamic-slice-law : (types : List TensorType) (arity : ℕ) (sizes : Numbers) (r : TensorType) → firstBroken (dynamicSliceTests types arity sizes r) ≡ 0 →
     DynamicSliceHolds types arity sizes r
-unfolding dynamicSliceConstraints dimTest allTypes typeTest
+unfolding dynamicSliceTests dimTest allTypes typeTest
 dynamic-slice-law types arity sizes r e =
-    let h = holds (dynamicSliceConstraints types arity sizes r) e in
+    let h = holds (dynamicSliceTests types arity sizes r) e in
     let x = typeAt types 0 in
     let n = x .shape .rank in
     let s = sidesOf x r 0 sizes sizes sizes in
@@ -361,11 +338,11 @@ dynamic-slice-law types arity sizes r e =
       shape = λ d l. eqb-true (dim (r .shape) d) (num sizes d) (holds-at n (dimTest SizeIs s) (w .1) d l);
     }
 
-pub reduce-law : (x v a b : TensorType) (dimensions : Numbers) (r : TensorType) → firstBroken (reduceConstraints x v a b dimensions r) ≡ 0 →
+pub reduce-law : (x v a b : TensorType) (dimensions : Numbers) (r : TensorType) → firstBroken (reduceTests x v a b dimensions r) ≡ 0 →
     ReduceHolds x v a b dimensions r
-unfolding reduceConstraints dimTest keptIs
+unfolding reduceTests dimTest keptIs
 reduce-law x v a b dimensions r e =
-    let h = holds (reduceConstraints x v a b dimensions r) e in
+    let h = holds (reduceTests x v a b dimensions r) e in
     let s = sidesOf x r (x .shape .rank) dimensions dimensions dimensions in
     let n = x .shape .rank in
     let p = both-true (sameElement x a && eqb (a .shape .rank) 0) (sameElement x b && eqb (b .shape .rank) 0) (h .1 .1 .1 .1 .1 .0) in
@@ -378,7 +355,7 @@ reduce-law x v a b dimensions r e =
       rank = eqb-true (r .shape .rank) (keptBelow dimensions n) (w .0);
       sizes = λ d l.
           either-way (λ q. q) (eqb-true (dim (x .shape) d) (dim (r .shape) (keptBelow dimensions d)))
-          (or-true (isIn dimensions d) (eqb (dim (x .shape) d) (dim (r .shape) (keptBelow dimensions d))) (holds-at n (dimTest Kept s) (w .1) d l));
+          (or-true (isIn (listOf dimensions) d) (eqb (dim (x .shape) d) (dim (r .shape) (keptBelow dimensions d))) (holds-at n (dimTest Kept s) (w .1) d l));
       element = same-element x r (h .1 .1 .1 .1 .1 .1 .1 .0);
     }
   where

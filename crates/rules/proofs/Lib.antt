@@ -1,3 +1,2 @@
 pub mod BrokenLaw
 pub mod FactLaw
-pub mod Examples

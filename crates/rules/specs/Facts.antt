@@ -8,7 +8,8 @@ use Rattle.shape.specs.Index.{size}
 use Rattle.shape.specs.Dims.{dimsOf}
 use Rattle.shape.specs.declared.Shape.{Shape}
 use Rattle.dimrules.specs.Whole.{numberOf, upOf, downOf, ceilDiv}
-use Rattle.dimrules.specs.Dims.{dim, num, isIn, keptBelow}
+use Rattle.shape.specs.Place.{isIn}
+use Rattle.dimrules.specs.Dims.{dim, num, listOf, keptBelow}
 use Rattle.dimrules.specs.Types.{typeAt, sumOfDims}
 use Rattle.dimrules.specs.declared.TensorType.{TensorType}
 use Rattle.dimrules.specs.declared.Numbers.{Numbers}
@@ -76,6 +77,7 @@ pub record SliceHolds (x : TensorType) (start limit strides : Numbers) (r : Tens
   pub rank : r .shape .rank ≡ x .shape .rank
   pub order : (d : ℕ) → d < x .shape .rank → (num start d ≤ num limit d) × (num limit d ≤ dim (x .shape) d)
   pub positive : (d : ℕ) → d < x .shape .rank → 0 < num strides d
+  pub small : (d : ℕ) → d < x .shape .rank → num strides d < 2 ^ 63
   pub sizes : (d : ℕ) → d < x .shape .rank → dim (r .shape) d ≡ ceilDiv (num limit d - num start d) (num strides d)
 
 pub record PadHolds (x paddingValue : TensorType) (low high interior : Numbers) (r : TensorType) : Type 0 where
@@ -111,5 +113,5 @@ pub record ReduceHolds (x v a b : TensorType) (dimensions : Numbers) (r : Tensor
   pub left : (x .element ≡ a .element) × (a .shape .rank ≡ 0)
   pub right : (x .element ≡ b .element) × (b .shape .rank ≡ 0)
   pub rank : r .shape .rank ≡ keptBelow dimensions (x .shape .rank)
-  pub sizes : (d : ℕ) → d < x .shape .rank → (isIn dimensions d ≡ true) ⊎ (dim (x .shape) d ≡ dim (r .shape) (keptBelow dimensions d))
+  pub sizes : (d : ℕ) → d < x .shape .rank → (isIn (listOf dimensions) d ≡ true) ⊎ (dim (x .shape) d ≡ dim (r .shape) (keptBelow dimensions d))
   pub element : x .element ≡ r .element

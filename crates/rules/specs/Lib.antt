@@ -1,3 +1,1 @@
-pub mod Broken
-pub mod Constraints
 pub mod Facts

@@ -22,12 +22,15 @@ use limits::Limits;
 use optable::Choices;
 ghost use mathlib.Core.Path.{_≡_};
 ghost use mathlib.Core.Bool.{true, _&&_};
-ghost use Prim.Native.Nat.{_≤_};
+ghost use Prim.Native.Nat.{_-_, _≤_};
 ghost use lib.Dec.{eqb};
 ghost use Rattle.shape.specs.Dims.{Sized};
-ghost use Rattle.dimrules.specs.Types.{AllSized, sameElement};
-ghost use Rattle.rules.specs.Broken.{firstBroken};
-ghost use Rattle.rules.specs.Constraints.{sidesOf, compareTypeIs, sameTypesConstraints, absConstraints, constantConstraints, convertConstraints, iotaConstraints, reshapeConstraints, compareConstraints, selectConstraints, clampConstraints, reverseConstraints, transposeConstraints, broadcastConstraints, sliceConstraints, padConstraints, concatenateConstraints, dynamicSliceConstraints, reduceConstraints};
+ghost use Rattle.dimrules.specs.Types.{AllSized, sameElement, typeAt};
+ghost use Rattle.dimrules.specs.Whole.{numberOf};
+ghost use Rattle.checks.specs.Check.{brokenNumber};
+ghost use Rattle.checks.specs.Formula.{ints};
+ghost use Rattle.op_checks.specs.OpChecks.{typesFrom, compareTypeIs, sameTypesChecks, absChecks, constantChecks, convertChecks, iotaChecks, reshapeChecks, compareChecks, selectChecks, clampChecks, reverseChecks, transposeChecks, broadcastChecks, sliceChecks, padChecks, concatenateChecks, dynamicSliceChecks, reduceChecks};
+ghost use Rattle.rule_laws.specs.Broken.{firstBroken, sidesOf};
 
 // The number of the first constraint that doesn't hold, or 0.
 fn first_broken(c: [bool; 8]) -> usize
@@ -69,7 +72,7 @@ pub fn same_types_broken(
     r: TensorType,
 ) -> usize
     requires { ⌜ (arity ≤ 8) × Sized (r .shape) ⌝ }
-    ensures { λ k. ⌜ k ≡ firstBroken (sameTypesConstraints types arity r) ⌝ }
+    ensures { λ k. ⌜ k ≡ brokenNumber (sameTypesChecks (typesFrom types 0 arity) r) ⌝ }
 {
     let c1 = all_types(TypeTest::SameType, r, types, 0, arity, 0);
     first_broken([c1, true, true, true, true, true, true, true])
@@ -77,7 +80,7 @@ pub fn same_types_broken(
 
 pub fn abs_broken(x: TensorType, r: TensorType) -> usize
     requires { ⌜ Sized (r .shape) ⌝ }
-    ensures { λ k. ⌜ k ≡ firstBroken (absConstraints x r) ⌝ }
+    ensures { λ k. ⌜ k ≡ brokenNumber (absChecks x r) ⌝ }
 {
     let c1 = same_shape(r, x);
     let c2 = same_element(r, x);
@@ -86,7 +89,7 @@ pub fn abs_broken(x: TensorType, r: TensorType) -> usize
 
 pub fn constant_broken(value: TensorType, r: TensorType) -> usize
     requires { ⌜ Sized (value .shape) ⌝ }
-    ensures { λ k. ⌜ k ≡ firstBroken (constantConstraints value r) ⌝ }
+    ensures { λ k. ⌜ k ≡ brokenNumber (constantChecks value r) ⌝ }
 {
     let c1 = same_type(value, r);
     first_broken([c1, true, true, true, true, true, true, true])
@@ -94,14 +97,14 @@ pub fn constant_broken(value: TensorType, r: TensorType) -> usize
 
 pub fn convert_broken(x: TensorType, r: TensorType) -> usize
     requires { ⌜ Sized (x .shape) ⌝ }
-    ensures { λ k. ⌜ k ≡ firstBroken (convertConstraints x r) ⌝ }
+    ensures { λ k. ⌜ k ≡ brokenNumber (convertChecks x r) ⌝ }
 {
     let c1 = same_shape(x, r);
     first_broken([c1, true, true, true, true, true, true, true])
 }
 
 pub fn iota_broken(dimension: usize, r: TensorType) -> usize
-    ensures { λ k. ⌜ k ≡ firstBroken (iotaConstraints dimension r) ⌝ }
+    ensures { λ k. ⌜ k ≡ brokenNumber (iotaChecks (numberOf dimension) r) ⌝ }
 {
     let c1 = below(dimension, rank_of(r));
     first_broken([c1, true, true, true, true, true, true, true])
@@ -109,7 +112,7 @@ pub fn iota_broken(dimension: usize, r: TensorType) -> usize
 
 pub fn reshape_broken(x: TensorType, r: TensorType) -> usize
     requires { ⌜ Sized (x .shape) × Sized (r .shape) ⌝ }
-    ensures { λ k. ⌜ k ≡ firstBroken (reshapeConstraints x r) ⌝ }
+    ensures { λ k. ⌜ k ≡ brokenNumber (reshapeChecks x r) ⌝ }
 {
     let n = x.shape;
     let m = r.shape;
@@ -134,7 +137,7 @@ fn compare_type_is(choice: usize, e: ElementType) -> bool
 
 pub fn compare_broken(x: TensorType, y: TensorType, choice: usize, r: TensorType) -> usize
     requires { ⌜ Sized (x .shape) ⌝ }
-    ensures { λ k. ⌜ k ≡ firstBroken (compareConstraints x y choice r) ⌝ }
+    ensures { λ k. ⌜ k ≡ brokenNumber (compareChecks x y choice r) ⌝ }
 {
     let e = x.element;
     let c1 = same_element(x, y);
@@ -145,7 +148,7 @@ pub fn compare_broken(x: TensorType, y: TensorType, choice: usize, r: TensorType
 
 pub fn select_broken(pred: TensorType, t: TensorType, f: TensorType, r: TensorType) -> usize
     requires { ⌜ Sized (pred .shape) × Sized (t .shape) ⌝ }
-    ensures { λ k. ⌜ k ≡ firstBroken (selectConstraints pred t f r) ⌝ }
+    ensures { λ k. ⌜ k ≡ brokenNumber (selectChecks pred t f r) ⌝ }
 {
     let c1 = either(rank_of(pred) == 0, same_shape(pred, t));
     let c2 = both(same_type(t, f), same_type(t, r));
@@ -154,7 +157,7 @@ pub fn select_broken(pred: TensorType, t: TensorType, f: TensorType, r: TensorTy
 
 pub fn clamp_broken(min: TensorType, x: TensorType, max: TensorType, r: TensorType) -> usize
     requires { ⌜ Sized (min .shape) × Sized (x .shape) × Sized (max .shape) ⌝ }
-    ensures { λ k. ⌜ k ≡ firstBroken (clampConstraints min x max r) ⌝ }
+    ensures { λ k. ⌜ k ≡ brokenNumber (clampChecks min x max r) ⌝ }
 {
     let c1 = either(rank_of(min) == 0, same_shape(min, x));
     let c2 = either(rank_of(max) == 0, same_shape(max, x));
@@ -165,7 +168,7 @@ pub fn clamp_broken(min: TensorType, x: TensorType, max: TensorType, r: TensorTy
 
 pub fn reverse_broken(x: TensorType, dimensions: Numbers, r: TensorType) -> usize
     requires { ⌜ Sized (x .shape) × (dimensions .count ≤ 6) ⌝ }
-    ensures { λ k. ⌜ k ≡ firstBroken (reverseConstraints x dimensions r) ⌝ }
+    ensures { λ k. ⌜ k ≡ brokenNumber (reverseChecks x (ints dimensions) r) ⌝ }
 {
     let count = dimensions.count;
     let s = sides_of(x, r, rank_of(r), dimensions, dimensions, dimensions);
@@ -177,7 +180,7 @@ pub fn reverse_broken(x: TensorType, dimensions: Numbers, r: TensorType) -> usiz
 
 pub fn transpose_broken(x: TensorType, permutation: Numbers, r: TensorType) -> usize
     requires { ⌜ Sized (x .shape) × (permutation .count ≤ 6) ⌝ }
-    ensures { λ k. ⌜ k ≡ firstBroken (transposeConstraints x permutation r) ⌝ }
+    ensures { λ k. ⌜ k ≡ brokenNumber (transposeChecks x (ints permutation) r) ⌝ }
 {
     let rank = rank_of(x);
     let s = sides_of(x, r, rank, permutation, permutation, permutation);
@@ -190,7 +193,7 @@ pub fn transpose_broken(x: TensorType, permutation: Numbers, r: TensorType) -> u
 
 pub fn broadcast_broken(x: TensorType, dimensions: Numbers, r: TensorType) -> usize
     requires { ⌜ Sized (x .shape) × (dimensions .count ≤ 6) ⌝ }
-    ensures { λ k. ⌜ k ≡ firstBroken (broadcastConstraints x dimensions r) ⌝ }
+    ensures { λ k. ⌜ k ≡ brokenNumber (broadcastChecks x (ints dimensions) r) ⌝ }
 {
     let rank = rank_of(x);
     let count = dimensions.count;
@@ -211,7 +214,7 @@ pub fn slice_broken(
     r: TensorType,
 ) -> usize
     requires { ⌜ Sized (x .shape) × (start .count ≤ 6) ⌝ }
-    ensures { λ k. ⌜ k ≡ firstBroken (sliceConstraints x start limit strides r) ⌝ }
+    ensures { λ k. ⌜ k ≡ brokenNumber (sliceChecks x (ints start) (ints limit) (ints strides) r) ⌝ }
 {
     let rank = rank_of(x);
     let s = sides_of(x, r, 0, start, limit, strides);
@@ -232,7 +235,7 @@ pub fn pad_broken(
     r: TensorType,
 ) -> usize
     requires { ⌜ Sized (x .shape) × (low .count ≤ 6) ⌝ }
-    ensures { λ k. ⌜ k ≡ firstBroken (padConstraints x v low high interior r) ⌝ }
+    ensures { λ k. ⌜ k ≡ brokenNumber (padChecks x v (ints low) (ints high) (ints interior) r) ⌝ }
 {
     let rank = rank_of(x);
     let s = sides_of(x, r, 0, low, high, interior);
@@ -250,7 +253,7 @@ pub fn concatenate_broken(
     r: TensorType,
 ) -> usize
     requires { ⌜ (arity ≤ 8) × AllSized types ⌝ }
-    ensures { λ k. ⌜ k ≡ firstBroken (concatenateConstraints types arity dimension r) ⌝ }
+    ensures { λ k. ⌜ k ≡ brokenNumber (concatenateChecks (typesFrom types 0 arity) (numberOf dimension) r) ⌝ }
 {
     let x = types[0];
     let m = r.shape;
@@ -271,7 +274,7 @@ pub fn dynamic_slice_broken(
     r: TensorType,
 ) -> usize
     requires { ⌜ (arity ≤ 8) × AllSized types × (sizes .count ≤ 6) ⌝ }
-    ensures { λ k. ⌜ k ≡ firstBroken (dynamicSliceConstraints types arity sizes r) ⌝ }
+    ensures { λ k. ⌜ k ≡ brokenNumber (dynamicSliceChecks (typeAt types 0) (typesFrom types 1 (arity - 1)) (ints sizes) r) ⌝ }
 {
     let x = types[0];
     let y = types[1];
@@ -303,7 +306,7 @@ pub fn reduce_broken(
     r: TensorType,
 ) -> usize
     requires { ⌜ Sized (x .shape) × (dimensions .count ≤ 6) ⌝ }
-    ensures { λ k. ⌜ k ≡ firstBroken (reduceConstraints x v a b dimensions r) ⌝ }
+    ensures { λ k. ⌜ k ≡ brokenNumber (reduceChecks x v a b (ints dimensions) r) ⌝ }
 {
     let rank = rank_of(x);
     let count = dimensions.count;

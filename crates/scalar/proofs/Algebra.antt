@@ -10,7 +10,7 @@ use lib.Dec.{lit<}
 use lib.Bits.{bitAnd, bitOr, and-comm, or-comm, and-self, or-self}
 use lib.IntN.{ℤ, pos, _+ℤ_, _*ℤ_, +ℤ-idl, +ℤ-idr, +ℤ-comm, *ℤ-comm, *ℤ-one, one}
 use Rattle.lists.specs.Lists.{pick}
-use Rattle.element.specs.Types.{residue, read, widthOf, signedOf, boolOf, allOf, valueOf, wrapTo, slotOf, Value}
+use Rattle.element.specs.Types.{residue, read, widthOf, signedOf, boolOf, allOf, valueOf, wrapTo, slotFor, slotOf, Value}
 use Rattle.element.specs.declared.ElementType.{ElementType}
 use Rattle.element.specs.declared.ElementType.the-variants.{I1, I8, I16, I32, I64, U8, U16, U32, U64}
 use Rattle.element.proofs.Mod.{mul-mod-l, mul-mod-r}
@@ -30,7 +30,7 @@ modulus t = 2 ^ widthOf t
 
 -- integers that are congruent modulo 2^n are taken to one slot
 pub wrapTo-residue : (t : ElementType) (x y : ℤ) → residue (modulus t) x ≡ residue (modulus t) y → wrapTo t x ≡ wrapTo t y
-unfolding wrapTo
+unfolding wrapTo slotFor
 wrapTo-residue t x y e = ap (λ (r : ℕ). slotOf (read (signedOf t) (widthOf t) r)) e
 
 -- and the value of that slot is congruent to them

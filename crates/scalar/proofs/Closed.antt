@@ -13,7 +13,7 @@ use lib.Pow.{pow-pos, pow-mono}
 use lib.Count.{leading-le, ones-le}
 use borrow.Author.Tests.{eqb-false}
 use Rattle.lists.specs.Lists.{pick}
-use Rattle.element.specs.Types.{widthOf, signedOf, boolOf, lowestOf, highestOf, valueOf, wrapTo, slotOf, Value}
+use Rattle.element.specs.Types.{widthOf, signedOf, boolOf, lowestOf, highestOf, valueOf, wrapTo, slotFor, slotOf, Value}
 use Rattle.element.specs.declared.ElementType.{ElementType}
 use Rattle.element.specs.declared.ElementType.the-variants.{I1}
 use Rattle.element.proofs.Wrap.{wrap-signed}
@@ -43,7 +43,7 @@ module _ (t : ElementType) where
 
   -- a number of a signed type's range
   in-range : signedOf t ≡ true → (z : ℤ) → mag z < 2 ^ (widthOf t - 1) → Value t (slotOf z)
-  unfolding wrapTo
+  unfolding wrapTo slotFor
   in-range g z h = rw (g, wrap-signed (widthOf t) (sized t .least) z h) at (wrapped-value t z)
 
   -- a count of bits of the type's width

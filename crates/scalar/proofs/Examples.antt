@@ -5,7 +5,7 @@ use mathlib.Core.List.{List, [], _∷_, map}
 use Prim.Native.Nat.{ℕ}
 use lib.IntN.{pos, negℤ}
 use lib.Count.{onesIn, leadingZeros}
-use Rattle.element.specs.Types.{slotOf, valueOf, wrapTo}
+use Rattle.element.specs.Types.{slotOf, valueOf, wrapTo, slotFor}
 use Rattle.element.specs.declared.ElementType.the-variants.{I1, I8, I16, I32, I64, U8, U16, U64}
 use Rattle.scalar.specs.Ops.{unaryOf, binaryOf, compareOf, clampOf, selectOf, convertOf, iotaOf, addOf, subtractOf, multiplyOf, negateOf, signOf, ltOf, maximumOf, minimumOf, notOf, countLeadingZerosOf, popcntOf, shiftLeftOf, shiftRightArithmeticOf, shiftRightLogicalOf}
 use Rattle.scalar.specs.declared.Unary.the-variants.{Negate, Sign, Not, CountLeadingZeros, Popcnt}
@@ -58,5 +58,5 @@ rows =
     ∷ record { gives = unaryOf Popcnt I8 (minus 1) ∷ unaryOf CountLeadingZeros I16 300 ∷ unaryOf CountLeadingZeros U8 0 ∷ []; is = 8 ∷ 7 ∷ 8 ∷ [] } ∷ []
 
 examples : map (λ (r : Row). r .gives) rows ≡ map (λ (r : Row). r .is) rows
-unfolding addOf subtractOf multiplyOf negateOf iotaOf convertOf signOf ltOf maximumOf minimumOf compareOf notOf countLeadingZerosOf popcntOf shiftLeftOf shiftRightArithmeticOf shiftRightLogicalOf clampOf selectOf valueOf wrapTo onesIn leadingZeros
+unfolding addOf subtractOf multiplyOf negateOf iotaOf convertOf signOf ltOf maximumOf minimumOf compareOf notOf countLeadingZerosOf popcntOf shiftLeftOf shiftRightArithmeticOf shiftRightLogicalOf clampOf selectOf valueOf wrapTo slotFor onesIn leadingZeros
 examples = refl

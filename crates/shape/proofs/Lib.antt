@@ -2,3 +2,4 @@ pub mod DimensionLaw
 pub mod ElementLaw
 pub mod Examples
 pub mod IndexLaw
+pub mod WholeLaw

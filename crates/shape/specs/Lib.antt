@@ -1,3 +1,4 @@
 pub mod Dims
 pub mod Index
 pub mod Place
+pub mod Whole

@@ -1,6 +1,6 @@
 -- From the tests of an example to what the ops require.
 -- Assumes nothing.
-use mathlib.Core.Path.{_≡_, refl}
+use mathlib.Core.Path.{_≡_, refl, sym, ap, _∙_}
 use mathlib.Core.Bool.{Bool, true, false, _&&_, _||_, false≢true}
 use mathlib.Core.List.{List, [], _∷_}
 use lib.Dec.{leb, ltb, eqb}
@@ -11,11 +11,13 @@ use Rattle.lists.specs.Lists.{All, allBelow}
 use Rattle.lists.proofs.SearchLaw.{all-at}
 use Rattle.shape.specs.Index.{at, size, volume}
 use Rattle.shape.specs.Dims.{dimsOf, Sized}
+use Rattle.shape.specs.Place.{placeIn}
+use Rattle.shape.specs.Whole.{ceilDiv}
 use Rattle.shape.specs.declared.Shape.{Shape}
-use Rattle.maps.specs.Holds.{Stretches, IotaHolds, SliceHolds, PadHolds, DynamicSliceHolds, ConcatenateHolds, Inputs, ceilDiv}
+use Rattle.maps.specs.Holds.{Stretches, IotaHolds, TransposeHolds, SliceHolds, PadHolds, DynamicSliceHolds, ConcatenateHolds, Inputs}
 use Rattle.maps.specs.Concatenation.{noShape}
 use Rattle.reduction.specs.Rows as rows
-use Rattle.shown_shapes.specs.Fit.{Fit, Few, IsAlong, sliceAt, IsSlice, IsPad, IsDynamic, inputAt, sameBut, allSameBut, AreInputs, IsConcatenation}
+use Rattle.shown_shapes.specs.Fit.{Fit, Few, IsAlong, transposeAt, IsTranspose, sliceAt, IsSlice, IsPad, IsDynamic, inputAt, sameBut, allSameBut, AreInputs, IsConcatenation}
 
 pub sized : (s : Shape) → leb (s .rank) 6 ≡ true → leb (volume (dimsOf s)) 4096 ≡ true → Sized s
 sized s r v = record { rank = leb-true _ _ r; volume = leb-true _ _ v }
@@ -41,6 +43,27 @@ both false b e = absurd (false≢true e)
 either : (a b : Bool) → a || b ≡ true → (a ≡ true → ⊥) → b ≡ true
 either true b e n = absurd (n refl)
 either false b e n = e
+
+module _ (permutation from to : List ℕ) (h : IsTranspose permutation from to) where
+  moved : (d : ℕ) → d < length from → (ltb (at permutation d) (length from) ≡ true) × (eqb (placeIn permutation (at permutation d)) d ≡ true)
+      × (eqb (at to d) (at from (at permutation d)) ≡ true)
+  moved d b =
+      let p = both _ _ (all-at (length from) (transposeAt permutation from to) d (h .2) b) in
+      let q = both _ _ (p .0) in
+      (q .0, q .1, p .1)
+
+  place : (d : ℕ) → d < length permutation → placeIn permutation (at permutation d) ≡ d
+  place d b = eqb-true _ _ (moved d (rw (← h .0) b) .1)
+
+  pub transpose-holds : TransposeHolds permutation from to
+  transpose-holds =
+      record {
+        count = h .0;
+        below = λ d b. ltb-true _ _ (moved d (rw (← h .0) b) .0);
+        unique = λ i j l m e. sym (place i l) ∙ ap (placeIn permutation) e ∙ place j m;
+        rank = h .1;
+        sizes = λ d b. eqb-true _ _ (moved d b .2);
+      }
 
 module _ (start limit strides from to : List ℕ) (h : IsSlice start limit strides from to) where
   facts : (d : ℕ) → d < length from → (leb (at start d) (at limit d) ≡ true) × (leb (at limit d) (at from d) ≡ true) × (ltb 0 (at strides d) ≡ true)

@@ -9,9 +9,10 @@ use lib.ListN.{length, getD}
 use Rattle.lists.specs.Lists.{allBelow}
 use Rattle.shape.specs.Index.{at, size, volume}
 use Rattle.shape.specs.Dims.{dimsOf}
+use Rattle.shape.specs.Place.{placeIn}
+use Rattle.shape.specs.Whole.{ceilDiv}
 use Rattle.shape.specs.declared.Shape.{Shape}
 use Rattle.maps.specs.Concatenation.{noShape, sumAlong}
-use Rattle.maps.specs.Holds.{ceilDiv}
 
 -- the stretch has the shape, which is within 01's sizes 1 and 2
 abbrev pub Fit : Shape → List ℕ → Type 0
@@ -24,6 +25,15 @@ Few count = leb count 6 ≡ true
 -- iota: C1
 abbrev pub IsAlong : ℕ → List ℕ → Type 0
 IsAlong dimension to = ltb dimension (length to) ≡ true
+
+-- transpose: C2 and C3 in dimension d, whose number in the permutation stands at no place before
+abbrev pub transposeAt : List ℕ → List ℕ → List ℕ → ℕ → Bool
+transposeAt permutation from to d =
+    ltb (at permutation d) (length from) && eqb (placeIn permutation (at permutation d)) d && eqb (at to d) (at from (at permutation d))
+
+abbrev pub IsTranspose : List ℕ → List ℕ → List ℕ → Type 0
+IsTranspose permutation from to =
+    (length permutation ≡ length from) × (length to ≡ length from) × (allBelow (length from) (transposeAt permutation from to) ≡ true)
 
 -- slice: C3, C4 and C5 in dimension d
 abbrev pub sliceAt : List ℕ → List ℕ → List ℕ → List ℕ → List ℕ → ℕ → Bool

@@ -1,12 +1,14 @@
 // Each function runs an op, shape by shape, on a stretch that it is lent, and shows what the op wrote there.
 ghost use mathlib.Core.Path.{_≡_};
+ghost use mathlib.Core.List.{map};
 ghost use lib.ListN.{length, take};
 ghost use Rattle.shape.specs.Index.{size};
 ghost use Rattle.shape.specs.Dims.{dimsOf};
+ghost use Rattle.shape.specs.Whole.{numberOf};
 ghost use Rattle.maps.specs.Formulas.{reshaped, broadcasted, transposed, sliced, reversed, padded, dynamicSliced, counted};
 ghost use Rattle.maps.specs.Concatenation.{shapesOf, inputsOf, concatenated};
 ghost use Rattle.reduction.specs.Rows.{reduced};
-ghost use Rattle.shown_shapes.specs.Fit.{Fit, Few, IsAlong, IsSlice, IsPad, IsDynamic, AreInputs, IsConcatenation};
+ghost use Rattle.shown_shapes.specs.Fit.{Fit, Few, IsAlong, IsTranspose, IsSlice, IsPad, IsDynamic, AreInputs, IsConcatenation};
 use element::ElementType;
 use scalar::Body;
 use shape::Shape;
@@ -36,7 +38,7 @@ pub fn transpose(
     to: Shape,
     out: &mut [u64],
 )
-    requires { ⌜ Fit from (now x) × Fit to (now out) ⌝ }
+    requires { ⌜ Fit from (now x) × Fit to (now out) × IsTranspose (take (from .rank) permutation) (dimsOf from) (dimsOf to) ⌝ }
     ensures { λ _. ⌜ now (out .exit) ≡ transposed (take (from .rank) permutation) (dimsOf from) (dimsOf to) (now (x .entry)) ⌝ }
 {
     maps::transpose(x, from, permutation, to, out);
@@ -120,7 +122,7 @@ pub fn pad(
     out: &mut [u64],
 )
     requires { ⌜ Fit from (now x) × Fit to (now out) × IsPad (take (from .rank) interior) (dimsOf from) (dimsOf to) ⌝ }
-    ensures { λ _. ⌜ now (out .exit) ≡ padded (take (from .rank) low) (take (from .rank) interior) (dimsOf from) (dimsOf to) (now (x .entry)) z ⌝ }
+    ensures { λ _. ⌜ now (out .exit) ≡ padded (map numberOf (take (from .rank) low)) (take (from .rank) interior) (dimsOf from) (dimsOf to) (now (x .entry)) z ⌝ }
 {
     maps::pad(x, from, low, interior, z, to, out);
     show(name, out);

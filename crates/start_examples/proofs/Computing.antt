@@ -20,7 +20,8 @@ use Rattle.scan.specs.TensorText.{elementEnd, typeClose}
 use Rattle.scan.specs.TypeText.{byteEnd, complexEnd, digitsEnd, shapeEnd, shapeFrom, sizeNext, wordEnd}
 use Rattle.text.specs.Lex.{lexeme, markToken, nameEnd, nameToken, plainWord, quoteToken, signToken, tensorToken, tokenAt, wordToken}
 use Rattle.text.specs.Names.{nameBytes, sameBytes, sameName, wordIs}
-use Rattle.types.specs.Numbers.{digitsFrom, inType, magnitudeOf, numberIn, numberOf}
+use Rattle.element.specs.Types.{slotFor}
+use Rattle.types.specs.Numbers.{digitsFrom, inType, magnitudeOf, numberIn, numberOf, isAttributeNumber, patternIn}
 use Rattle.types.specs.Tensors.{allFit, countOf as countOfByte, dimensionsFrom, elementNamed, foreign, sizePassed as typeSizePassed, typeAfter, typeOf, typed, widthNamed}
 use Rattle.grammar.specs.Grammar.{grammar}
 use Rattle.grammar.specs.Machine.{cell, step}
@@ -30,7 +31,7 @@ use Rattle.syntax.specs.Readings.{readings, readingsFrom, readingsOf}
 use Rattle.optable.specs.Find.{findAttribute, findChoice, findChoiceKind, findOp, placeIn, same, slotIn}
 use Rattle.optable.specs.Table.{directionAt, attributeKind, attributeNames, attributes, choiceForm, choiceKind, choiceKindNames, choiceKinds, choiceNames, choices, opNames, ops, rowAt}
 use Rattle.optable.specs.Takes.{operandTaken, resultTaken, takes}
-use Rattle.judge.specs.Judge.{earliest, refusalAt, refuse, textRefusal, unknown}
+use Rattle.judge.specs.Judge.{earliest, refusalAt, textRefusal, unknown}
 use Rattle.judge.specs.Roles.{among}
 use Rattle.judge.specs.Sizes.{firstPassed, largeNumber, longList, longName, manyElements, manyItems, manyOps, passes, sizePassed, typePassed}
 use Rattle.judge.specs.Tally.{afterToken, counts, depthAfter as depthAfterRole, elementsAt, itemNumber, itemsAfter, opsAfter}
@@ -39,11 +40,11 @@ use Rattle.program.specs.Program.{beginsOp, begun, inHeader, namesOp, namingAft
 use Rattle.attribute.specs.Attribute.{choiceAt, closeFrom, denseAt as denseAttribute, endsLiteral, formAt, goesOn, noNumbers, numberAt, numbersAt, numbersFrom, patternAt, tokenAfter, withNumber, wordForm}
 use Rattle.dense.specs.Dense.{andThen, before, booleanOf, denseAt, denseValue, itemsAt, literalOf, markAt, oneAt, sameAt as sameElements}
 use Rattle.dimrules.specs.Count.{everywhere, firstFailing}
-use Rattle.dimrules.specs.Dims.{dimTest, isFirst, isIn, keptBelow, keptIs}
-use Rattle.dimrules.specs.Types.{allTypes, sameButOne, sameElement, sameShape, sameType, sumOfDims, typeTest}
-use Rattle.dimrules.specs.Whole.{below, ceilingIs, inOrder, nonNegative, paddedIs, positive}
-use Rattle.rules.specs.Constraints.{absConstraints, broadcastConstraints, clampConstraints, compareConstraints, compareTypeIs, concatenateConstraints, constantConstraints, convertConstraints, dynamicSliceConstraints, iotaConstraints, padConstraints, reduceConstraints, reshapeConstraints, reverseConstraints, sameTypesConstraints, selectConstraints, sliceConstraints, transposeConstraints}
-use Rattle.opcheck.specs.Judged.{brokenBy, constraintsBy, takenAt, takenByTables}
+use Rattle.dimrules.specs.Dims.{dimTest}
+use Rattle.dimrules.specs.Types.{sameElement, sameShape, sameType}
+use Rattle.checks.specs.Formula.{compared, isPermutation, isUnique}
+use Rattle.op_checks.specs.OpChecks.{absChecks, broadcastChecks, clampChecks, compareChecks, compareTypeIs, concatenateChecks, constantChecks, convertChecks, dynamicSliceChecks, iotaChecks, padChecks, reduceChecks, reshapeChecks, reverseChecks, sameTypesChecks, selectChecks, sliceChecks, transposeChecks}
+use Rattle.opcheck.specs.Judged.{brokenBy, checksBy, takenAt, takenByTables}
 use Rattle.scope.specs.Scope.{begins, define, defines, ends, faultOf, forget, inputsFrom, look, nameAt, namesFrom, namesOf, placed, sameAt as sameNameAt, settle, turned, visible}
 use Rattle.places.specs.Places.{countOf, placeOf, typeIn, typeOfPart}
 use Rattle.values.specs.Values.{inputValue, inputsOf, opsOf, resultValue, valueAt, valuesIn}
@@ -76,7 +77,7 @@ computedOf text =
 
 -- What verdict and program of a text unfold: to unfold this is to unfold all that its line names.
 unfoldable pub reading : Unit {0}
-unfolding firstWhere inComment inRun isDigit isLetter isSigil isSign isSpace runEnd runFrom skipEnd skipFrom startsWith colonEnd floatEnd fractionEnd integerEnd moreEnd parameterEnd parametersEnd quantizedEnd scientificEnd signEnd storageEnd elementEnd typeClose byteEnd complexEnd digitsEnd shapeEnd shapeFrom sizeNext wordEnd lexeme markToken nameEnd nameToken plainWord quoteToken signToken tensorToken tokenAt wordToken nameBytes sameBytes sameName wordIs digitsFrom inType magnitudeOf numberIn numberOf allFit countOfByte dimensionsFrom elementNamed foreign typeSizePassed typeAfter typeOf typed widthNamed grammar cell step leafKinds matches kindOfToken markKind nameKind quotedKind tokenKind wordKind readings readingsFrom readingsOf findAttribute findChoice findChoiceKind findOp placeIn same slotIn attributeKind attributeNames attributes choiceKind choiceKindNames choiceKinds choiceNames choices opNames ops rowAt operandTaken resultTaken takes earliest refusalAt textRefusal unknown among firstPassed largeNumber longList longName manyElements manyItems manyOps passes sizePassed typePassed afterToken counts depthAfterRole elementsAt itemNumber itemsAfter opsAfter addedTo bodyAt depthAfterPart noParts noted opAt partOf partsAt partsFrom partsOf beginsOp begun inHeader namesOp namingAfter noProgram outlined programFrom programOf choiceAt choiceForm closeFrom denseAttribute endsLiteral formAt goesOn noNumbers numberAt numbersAt numbersFrom patternAt tokenAfter withNumber wordForm andThen before booleanOf denseAt denseValue itemsAt literalOf markAt oneAt sameElements everywhere firstFailing dimTest isFirst isIn keptBelow keptIs allTypes sameButOne sameElement sameShape sameType sumOfDims typeTest below ceilingIs inOrder nonNegative paddedIs positive absConstraints broadcastConstraints clampConstraints compareConstraints compareTypeIs concatenateConstraints constantConstraints convertConstraints dynamicSliceConstraints iotaConstraints padConstraints reduceConstraints reshapeConstraints reverseConstraints sameTypesConstraints selectConstraints sliceConstraints transposeConstraints brokenBy constraintsBy takenAt takenByTables begins define defines ends forget inputsFrom look nameAt namesFrom namesOf placed sameNameAt settle turned visible countOf placeOf typeIn typeOfPart inputValue inputsOf opsOf resultValue valueAt valuesIn faultOf inputsFault knownNames namesFault attributeFits attributeOf attributesFit attributesOf choiceFits choiceOf denseFits denseType kindFits nameOf neededAt numbersBy numbersOf stands standsAt argumentType asFirst bodyCounted bodyFits bodyRow formed hasCount innerOp isReducer onBoth oneType opCounted operandIs returnsIt rowNamed arityOf bodiesFit bodyType inTable opJudged operandTyped operandsTyped operationOf resultsAre returnJudged returnedAt returnsHeader rowOf typedOp typedReturn writtenTypes valueNamed byName byOp opRefusal opsFrom programRefusal typingOf verdict directionAt elementsOf inputTypes kindOf nodeAt nodesIn nodesOf operandsOf reducerAt typesOf concat identities reducing filled fromConstant fromInput reduction
+unfolding firstWhere inComment inRun isDigit isLetter isSigil isSign isSpace runEnd runFrom skipEnd skipFrom startsWith colonEnd floatEnd fractionEnd integerEnd moreEnd parameterEnd parametersEnd quantizedEnd scientificEnd signEnd storageEnd elementEnd typeClose byteEnd complexEnd digitsEnd shapeEnd shapeFrom sizeNext wordEnd lexeme markToken nameEnd nameToken plainWord quoteToken signToken tensorToken tokenAt wordToken nameBytes sameBytes sameName wordIs digitsFrom inType magnitudeOf numberIn numberOf allFit countOfByte dimensionsFrom elementNamed foreign typeSizePassed typeAfter typeOf typed widthNamed grammar cell step leafKinds matches kindOfToken markKind nameKind quotedKind tokenKind wordKind readings readingsFrom readingsOf findAttribute findChoice findChoiceKind findOp placeIn same slotIn attributeKind attributeNames attributes choiceKind choiceKindNames choiceKinds choiceNames choices opNames ops rowAt operandTaken resultTaken takes earliest refusalAt textRefusal unknown among firstPassed largeNumber longList longName manyElements manyItems manyOps passes sizePassed typePassed afterToken counts depthAfterRole elementsAt itemNumber itemsAfter opsAfter addedTo bodyAt depthAfterPart noParts noted opAt partOf partsAt partsFrom partsOf beginsOp begun inHeader namesOp namingAfter noProgram outlined programFrom programOf choiceAt choiceForm closeFrom denseAttribute endsLiteral formAt goesOn noNumbers numberAt numbersAt numbersFrom patternAt tokenAfter withNumber wordForm andThen before booleanOf denseAt denseValue itemsAt literalOf markAt oneAt sameElements everywhere firstFailing dimTest sameElement sameShape sameType absChecks broadcastChecks clampChecks compareChecks compareTypeIs concatenateChecks constantChecks convertChecks dynamicSliceChecks iotaChecks padChecks reduceChecks reshapeChecks reverseChecks sameTypesChecks selectChecks sliceChecks transposeChecks brokenBy checksBy compared isPermutation isUnique takenAt takenByTables begins define defines ends forget inputsFrom look nameAt namesFrom namesOf placed sameNameAt settle turned visible countOf placeOf typeIn typeOfPart inputValue inputsOf opsOf resultValue valueAt valuesIn faultOf inputsFault knownNames namesFault attributeFits attributeOf attributesFit attributesOf choiceFits choiceOf denseFits denseType kindFits nameOf neededAt numbersBy numbersOf stands standsAt argumentType asFirst bodyCounted bodyFits bodyRow formed hasCount innerOp isReducer onBoth oneType opCounted operandIs returnsIt rowNamed arityOf bodiesFit bodyType inTable opJudged operandTyped operandsTyped operationOf resultsAre returnJudged returnedAt returnsHeader rowOf typedOp typedReturn writtenTypes valueNamed byName byOp opRefusal opsFrom programRefusal typingOf verdict directionAt elementsOf inputTypes kindOf nodeAt nodesIn nodesOf operandsOf reducerAt typesOf concat identities reducing filled fromConstant fromInput reduction isAttributeNumber patternIn slotFor
 reading = tt
 
 -- a row by its place; past the last one none

@@ -1,25 +1,26 @@
 -- Laws of decimal numbers.
 -- Assumes nothing.
-use mathlib.Core.Path.{_≡_, refl, sym, _∙_}
+use mathlib.Core.Path.{_≡_, refl, sym, ap, _∙_}
 use mathlib.Core.Bool.{Bool, true, false, _&&_}
 use mathlib.Core.List.{List, [], _∷_}
-use Prim.Native.Nat.{ℕ, zero, suc, _+_, _-_, _*_, _^_, _%_, _<_, _≤_}
-use native.Mathlib.Nat.{mod-eq-of-lt}
+use Prim.Native.Nat.{ℕ, zero, suc, _+_, _-_, _*_, _^_, _<_, _≤_}
 use native.Mathlib.Numerals.{add-one, unary-clauses}
 use native.Mathlib.Decide.{decLt}
 use native.Mathlib.Omega.{arith}
-use lib.IntN.{pos, negsuc, negℤ}
+use lib.IntN.{ℤ, pos, negsuc, negℤ}
+use lib.Signed.{mag}
 use lib.ListN.{length, getD, drop, drop-of-length-le}
 use lib.Dec.{leb, ltb}
 use lib.Seq.{drop-cons}
 use borrow.Author.Tests.{leb-true, le-leb, lt-leb, lt-ltb, le-ltb}
 use Rattle.lists.specs.Lists.{pick}
 use Rattle.scan.specs.Bytes.{isDigit}
-use Rattle.element.specs.Types.{highestOf, signedOf, slotOf}
+use Rattle.element.specs.Types.{highestOf, signedOf, slotFor}
 use Rattle.element.specs.declared.ElementType.{ElementType}
-use Rattle.element.specs.declared.ElementType.the-variants.{I1, I8, I16, I32, I64, U8, U16, U32, U64}
+use Rattle.element.proofs.Held.{highest-small, signed-small}
+use Rattle.shape.specs.Whole.{patternOf}
 use Rattle.types.specs.declared.numbers.Decimal.{Decimal}
-use Rattle.types.specs.Numbers.{digitsFrom, asDecimal, inType, fitting, unfit, numberIn}
+use Rattle.types.specs.Numbers.{digitsFrom, asDecimal, inType, fitting, unfit, numberIn, isAttributeNumber, patternIn}
 
 -- the loop over digits
 
@@ -96,17 +97,6 @@ module _ (n : Bool) (m : ℕ) {d : Decimal} (e : d ≡ asDecimal n m) where
 
 -- no type has a number of 2^64 or more, or of -2^64 or less
 
-pub highest-small : (t : ElementType) → highestOf t < 2 ^ 64
-highest-small I1 = omega arith
-highest-small I8 = omega arith
-highest-small I16 = omega arith
-highest-small I32 = omega arith
-highest-small I64 = omega arith
-highest-small U8 = omega arith
-highest-small U16 = omega arith
-highest-small U32 = omega arith
-highest-small U64 = omega arith
-
 pub above : (t : ElementType) (n : ℕ) → highestOf t < n → numberIn t (pos n) ≡ unfit
 unfolding numberIn inType
 above t n h = rw (lt-leb n (highestOf t) h)
@@ -115,21 +105,9 @@ pub below : (t : ElementType) (n : ℕ) → highestOf t < n → numberIn t (negs
 unfolding numberIn inType
 below t n h = rw (lt-leb n (highestOf t) h) (by-sign (signedOf t))
   where
-    by-sign : (s : Bool) → pick (s && false) (fitting (slotOf (negsuc n))) unfit ≡ unfit
+    by-sign : (s : Bool) → pick (s && false) (fitting (slotFor t (negsuc n))) unfit ≡ unfit
     by-sign true = refl
     by-sign false = refl
-
--- a signed type's highest value is below 2^63
-pub signed-small : (t : ElementType) → signedOf t ≡ true → highestOf t < 2 ^ 63
-signed-small I1 e = let z : _≡_ {A = ℕ} 0 1 = cc in absurd (omega arith)
-signed-small I8 e = omega arith
-signed-small I16 e = omega arith
-signed-small I32 e = omega arith
-signed-small I64 e = omega arith
-signed-small U8 e = let z : _≡_ {A = ℕ} 0 1 = cc in absurd (omega arith)
-signed-small U16 e = let z : _≡_ {A = ℕ} 0 1 = cc in absurd (omega arith)
-signed-small U32 e = let z : _≡_ {A = ℕ} 0 1 = cc in absurd (omega arith)
-signed-small U64 e = let z : _≡_ {A = ℕ} 0 1 = cc in absurd (omega arith)
 
 pub unsigned-negsuc : (t : ElementType) (n : ℕ) → signedOf t ≡ false → numberIn t (negsuc n) ≡ unfit
 unfolding numberIn inType
@@ -145,21 +123,32 @@ big-number t true (suc n) h = by-sign (signedOf t) refl
 big-number t false m h = let g = highest-small t in above t m (omega arith)
 
 -- a number that fits as its slot
-pub fits-pos : (t : ElementType) (n : ℕ) → n ≤ highestOf t → numberIn t (pos n) ≡ fitting n
+pub fits-pos : (t : ElementType) (n : ℕ) → n ≤ highestOf t → numberIn t (pos n) ≡ fitting (slotFor t (pos n))
 unfolding numberIn inType
-fits-pos t n h =
-    let g = highest-small t in
-    let e : n % 2 ^ 64 ≡ n = mod-eq-of-lt (omega arith) in
-    rw (le-leb n (highestOf t) h, e)
+fits-pos t n h = rw (le-leb n (highestOf t) h)
 
-pub fits-negsuc : (t : ElementType) (n : ℕ) → signedOf t ≡ true → n ≤ highestOf t → numberIn t (negsuc n) ≡ fitting (2 ^ 64 - 1 - n)
+pub fits-negsuc : (t : ElementType) (n : ℕ) → signedOf t ≡ true → n ≤ highestOf t → numberIn t (negsuc n) ≡ fitting (slotFor t (negsuc n))
 unfolding numberIn inType
-fits-negsuc t n s h =
-    let g = highest-small t in
-    let e : n % 2 ^ 64 ≡ n = mod-eq-of-lt (omega arith) in
-    let f : 2 ^ 64 - suc n ≡ 2 ^ 64 - 1 - n = omega arith in
-    rw (le-leb n (highestOf t) h, s, e, f)
+fits-negsuc t n s h = rw (le-leb n (highestOf t) h, s)
 
 pub negated-suc : (m : ℕ) → 0 < m → negℤ (pos m) ≡ negsuc (m - 1)
 negated-suc zero h = absurd (omega arith)
 negated-suc (suc n) h = simp unary-clauses
+
+pub negated-next : (n : ℕ) → negℤ (pos (n + 1)) ≡ negsuc n
+negated-next n = ap (λ (k : ℕ). negℤ (pos k)) (add-one n)
+
+-- an attribute number as its pattern
+
+pub pattern-fits : (z : ℤ) → mag z < 2 ^ 63 → patternIn z ≡ fitting (patternOf z)
+unfolding patternIn isAttributeNumber
+pattern-fits z h = rw (lt-ltb (mag z) (2 ^ 63) h)
+
+pub pattern-unfit : (z : ℤ) → 2 ^ 63 ≤ mag z → patternIn z ≡ unfit
+unfolding patternIn isAttributeNumber
+pattern-unfit z h = rw (le-ltb (mag z) (2 ^ 63) h)
+
+pub big-pattern : (b : Bool) (m : ℕ) → 2 ^ 64 ≤ m → patternIn (pick b (negℤ (pos m)) (pos m)) ≡ unfit
+big-pattern true zero h = absurd (omega arith)
+big-pattern true (suc n) h = pattern-unfit (negsuc n) (omega arith)
+big-pattern false m h = pattern-unfit (pos m) (omega arith)

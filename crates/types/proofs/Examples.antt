@@ -5,15 +5,17 @@ use mathlib.Core.Bool.{false}
 use mathlib.Core.List.{[], _∷_, map}
 use Prim.Native.Nat.{_-_, _^_}
 use Prim.Native.String.{String}
+use lib.IntN.{pos, negℤ}
 use Rattle.scan.specs.Ascii.{ascii}
 use Rattle.scan.specs.Bytes.{isLetter, isDigit, isSign, inRun, runFrom, runEnd, startsWith}
 use Rattle.scan.specs.TypeText.{byteEnd, wordEnd, digitsEnd, sizeNext, shapeFrom, shapeEnd, complexEnd}
 use Rattle.scan.specs.Quantized.{signEnd}
 use Rattle.scan.specs.TensorText.{elementEnd, typeClose}
 use Rattle.text.specs.Names.{wordIs}
+use Rattle.element.specs.Types.{slotFor}
 use Rattle.element.specs.declared.ElementType.{ElementType}
 use Rattle.element.specs.declared.ElementType.the-variants.{I1, I8, I16, I32, I64, U8, U16, U32, U64}
-use Rattle.types.specs.Numbers.{digitsFrom, magnitudeOf, numberOf, inType, fitting, unfit, numberIn}
+use Rattle.types.specs.Numbers.{digitsFrom, magnitudeOf, numberOf, inType, fitting, unfit, numberIn, isAttributeNumber, patternIn}
 use Rattle.types.specs.Tensors.{widthNamed, elementNamed, dimensionsFrom, countOf, allFit, sizePassed, typed, foreign, typeAfter, typeOf}
 use Rattle.types.specs.declared.tensors.TypeRead.{TypeRead}
 
@@ -78,7 +80,7 @@ record Row : Type 0 where
 row : ElementType → String → Row
 row t s = record { type = t; text = s }
 
--- a number as a slot of its type; size 7 is i64 (OP-06, OP-37)
+-- a number as a slot of its type (OP-37)
 numbers : map (λ r. numberIn (r .type) (numberOf (ascii (r .text)) 0))
     (row I64 "-9223372036854775808" ∷
     row I64 "9223372036854775807" ∷
@@ -95,6 +97,13 @@ numbers : map (λ r. numberIn (r .type) (numberOf (ascii (r .text)) 0))
     row U64 "18446744073709551615" ∷
     row U64 "18446744073709551616" ∷
     row I8 "-18446744073709551616" ∷ [])
-    ≡ fitting (2 ^ 63) ∷ fitting (2 ^ 63 - 1) ∷ unfit ∷ unfit ∷ fitting 7 ∷ fitting 0 ∷ fitting 0 ∷ fitting 255 ∷ unfit ∷ unfit ∷ fitting (2 ^ 64 - 128) ∷ unfit ∷ fitting (2 ^ 64 - 1) ∷ unfit ∷ unfit ∷ []
-unfolding row isDigit isSign signEnd digitsFrom magnitudeOf numberOf inType numberIn
+    ≡ fitting (slotFor I64 (negℤ (pos (2 ^ 63)))) ∷ fitting (2 ^ 63 - 1) ∷ unfit ∷ unfit ∷ fitting 7 ∷ fitting 0 ∷ fitting 0 ∷ fitting 255 ∷ unfit ∷ unfit ∷ fitting (slotFor I8 (negℤ (pos 128))) ∷ unfit ∷ fitting (2 ^ 64 - 1) ∷ unfit ∷ unfit ∷ []
+unfolding row isDigit isSign signEnd digitsFrom magnitudeOf numberOf inType numberIn slotFor
 numbers = refl
+
+-- an attribute number as its pattern (size 7; OP-06)
+patterns : map (λ s. patternIn (numberOf (ascii s) 0))
+    ("-9223372036854775808" ∷ "9223372036854775807" ∷ "9223372036854775808" ∷ "-9223372036854775809" ∷ "-1" ∷ "18446744073709551616" ∷ [])
+    ≡ fitting (2 ^ 63) ∷ fitting (2 ^ 63 - 1) ∷ unfit ∷ unfit ∷ fitting (2 ^ 64 - 1) ∷ unfit ∷ []
+unfolding isDigit isSign signEnd digitsFrom magnitudeOf numberOf isAttributeNumber patternIn
+patterns = refl

@@ -4,13 +4,15 @@ use Prim.Native.Nat.{ℕ, _+_, _-_, _*_, _^_}
 use mathlib.Core.List.{List, [], _∷_}
 use mathlib.Core.Bool.{Bool, true, false, _&&_}
 use lib.IntN.{ℤ, pos, negsuc, negℤ}
+use lib.Signed.{mag}
 use lib.ListN.{drop}
-use lib.Dec.{leb, eqb}
+use lib.Dec.{leb, ltb, eqb}
 use Rattle.lists.specs.Lists.{pick}
 use Rattle.scan.specs.Bytes.{byteAt, isDigit}
 use Rattle.scan.specs.Quantized.{signEnd}
-use Rattle.element.specs.Types.{highestOf, signedOf, slotOf}
+use Rattle.element.specs.Types.{highestOf, signedOf, slotFor}
 use Rattle.element.specs.declared.ElementType.{ElementType}
+use Rattle.shape.specs.Whole.{patternOf}
 use Rattle.types.specs.declared.numbers.Decimal.{Decimal}
 use Rattle.types.specs.declared.numbers.Number.{Number}
 
@@ -43,11 +45,19 @@ inType t (pos n) = leb n (highestOf t)
 inType t (negsuc n) = signedOf t && leb n (highestOf t)
 
 abbrev pub fitting : ℕ → Number
-fitting slot = record { fits = true; bits = slot }
+fitting bits = record { fits = true; bits = bits }
 
 abbrev pub unfit : Number
 unfit = record { fits = false; bits = 0 }
 
--- a number of the type as its slot. "An attribute number .. lies in the signed 64-bit range" (01, Sizes, 7) is that it fits i64
+-- a number of the type as its slot
 unfoldable pub numberIn : ElementType → ℤ → Number
-numberIn t z = pick (inType t z) (fitting (slotOf z)) unfit
+numberIn t z = pick (inType t z) (fitting (slotFor t z)) unfit
+
+-- "An attribute number outside `dense` lies in the signed 64-bit range" (01, Sizes, 7): -1 - n does where n does
+unfoldable pub isAttributeNumber : ℤ → Bool
+isAttributeNumber z = ltb (mag z) (2 ^ 63)
+
+-- an attribute number as its pattern
+unfoldable pub patternIn : ℤ → Number
+patternIn z = pick (isAttributeNumber z) (fitting (patternOf z)) unfit

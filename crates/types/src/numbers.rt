@@ -5,8 +5,9 @@ ghost use mathlib.Core.Bool.{false};
 ghost use lib.IntN.{pos, negsuc, negℤ};
 ghost use lib.ListN.{drop};
 ghost use lib.Dec.{leb};
-ghost use Rattle.types.specs.Numbers.{digitsFrom, asDecimal, decimalOf, numberOf, numberIn};
+ghost use Rattle.types.specs.Numbers.{digitsFrom, asDecimal, decimalOf, numberOf, numberIn, patternIn};
 use element::ElementType;
+use element::slot_for;
 use scan::bytes::byte_at;
 use scan::bytes::is_digit;
 use scan::quantized::sign_end;
@@ -18,7 +19,7 @@ pub struct Decimal {
     pub magnitude: u64,
 }
 
-// A number of a type as its slot, or that it does not fit.
+// A number of a type as its slot, or an attribute number as its pattern, or that it does not fit.
 pub struct Number {
     pub fits: bool,
     pub bits: u64,
@@ -106,7 +107,7 @@ fn at_least_zero(n: u64, t: ElementType) -> Number
     if n <= t.highest() {
         return Number {
             fits: true,
-            bits: n,
+            bits: slot_for(t, false, n),
         };
     }
     Number {
@@ -123,7 +124,7 @@ fn below_zero(n: u64, t: ElementType) -> Number
         if n <= t.highest() {
             return Number {
                 fits: true,
-                bits: 0xffff_ffff_ffff_ffff - n,
+                bits: slot_for(t, true, n + 1),
             };
         }
         return Number {
@@ -147,7 +148,7 @@ fn negated(m: u64, t: ElementType) -> Number
     below_zero(m - 1, t)
 }
 
-// The number whose token starts at `start`, as a slot of type t. An attribute number is one of i64 (size 7).
+// The number whose token starts at `start`, as a slot of type t.
 pub fn number_in(text: &[u8], start: usize, t: ElementType) -> Number
     ensures { λ r. ⌜ r ≡ numberIn t (numberOf (now (text .entry)) start) ⌝ }
 {
@@ -162,4 +163,56 @@ pub fn number_in(text: &[u8], start: usize, t: ElementType) -> Number
         return negated(d.magnitude, t);
     }
     at_least_zero(d.magnitude, t)
+}
+
+// The number n.
+fn pattern_of(n: u64) -> Number
+    ensures { λ r. ⌜ r ≡ patternIn (pos n) ⌝ }
+{
+    if n < 0x8000_0000_0000_0000 {
+        return Number {
+            fits: true,
+            bits: n,
+        };
+    }
+    Number {
+        fits: false,
+        bits: 0,
+    }
+}
+
+// The number -m.
+fn negated_pattern(m: u64) -> Number
+    ensures { λ r. ⌜ r ≡ patternIn (negℤ (pos m)) ⌝ }
+{
+    if m == 0 {
+        return pattern_of(0);
+    }
+    if m - 1 < 0x8000_0000_0000_0000 {
+        return Number {
+            fits: true,
+            bits: u64::MAX - (m - 1),
+        };
+    }
+    Number {
+        fits: false,
+        bits: 0,
+    }
+}
+
+// The attribute number whose token starts at `start`, as a pattern of 64 bits (size 7).
+pub fn pattern_in(text: &[u8], start: usize) -> Number
+    ensures { λ r. ⌜ r ≡ patternIn (numberOf (now (text .entry)) start) ⌝ }
+{
+    let d = decimal_at(text, start);
+    if d.big {
+        return Number {
+            fits: false,
+            bits: 0,
+        };
+    }
+    if d.negative {
+        return negated_pattern(d.magnitude);
+    }
+    pattern_of(d.magnitude)
 }

@@ -131,6 +131,14 @@ module _ (text : List ℕ) (op : Parts) (o : OpText) (same : SameParts op o) whe
             (and-true (ltb (countOf op operandName) 9) (eqb (countOf op operandType) (countOf op operandName)) less (eq-eqb (countOf op operandType) (countOf op operandName) lengths))
             (holds-below (arityOf op) (operandTyped text op values n) (λ j h. let l : j < length (o .operands) = rw arity-is at h in operand-at j l ∙ pair-at typedPair (o .operands) (o .operandTypes) e j l))
 
+  -- a type for each operand
+  pub operands-long : (values : List Value) (n : ℕ) → operandsTyped text op values n ≡ true → length (o .operandTypes) ≡ length (o .operands)
+  unfolding operandsTyped
+  operands-long values n e =
+      let first = both-true (ltb (countOf op operandName) 9 && eqb (countOf op operandType) (countOf op operandName)) (everywhere (arityOf op) (operandTyped text op values n)) e in
+      let lengths = eqb-true (countOf op operandType) (countOf op operandName) (both-true (ltb (countOf op operandName) 9) (eqb (countOf op operandType) (countOf op operandName)) (first .0) .1) in
+      sym (same .operandTypes .count) ∙ lengths ∙ same .operands .count
+
   -- ---- the op with its row of the op table
 
   module _ (r : Op) (place : ℕ) where

@@ -1,4 +1,4 @@
-use Rattle.apply.proofs.ApplyLaw.{kind-ready, kind-is, iota-is, unary-is, binary-is, compare-is, convert-is, select-is, clamp-is, moved-is, pad-is, dynamic-is, reduce-is}
+use Rattle.apply.proofs.ApplyLaw.{kind-ready, kind-is, iota-small, iota-is, unary-is, binary-is, compare-is, convert-is, select-is, clamp-is, moved-is, pad-is, dynamic-is, reduce-is}
 use borrow.Author.Needs.{needs}
 use Rattle.apply.proofs.fill.Statement.{statement}
 use Rattle.apply.proofs.fill.Tie as tie
@@ -67,7 +67,7 @@ reduce-requires : tie.Need-reduce-requires
 reduce-requires c κs =
     let args = c .before .before .before .before .before .before .before .before .before .before .before .before .before .before .before .before .args in
     let h = kind-ready (args .k) (args .x .now) (args .y .now) (args .z .now) (args .out .now) (c .before .before .kind6 .given .1) (c .before .before .before .before .before .before .before .before .before .before .before .before .before .before .before .before .pre) in
-    h
+    h .0
 
 returns : tie.Need-returns
 returns c =
@@ -80,7 +80,7 @@ returns-2 c =
     let args = c .before .before .before .before .before .before .before .before .before .before .before .before .before .before .before .before .before .before .args in
     let h = kind-ready (args .k) (args .x .now) (args .y .now) (args .z .now) (args .out .now) (c .before .before .before .before .enum-told2 .given .1) (c .before .before .before .before .before .before .before .before .before .before .before .before .before .before .before .before .before .before .pre) in
     kind-is (args .k) (args .x .now) (args .y .now) (args .z .now) (args .starts) (c .before .before .before .before .enum-told2 .given .1)
-    (iota-is (args .k) (args .starts) (args .x .now) (args .y .now) (args .z .now) (h .3) (c .before .before .iota .ensures))
+    (iota-is (args .k) (args .starts) (args .x .now) (args .y .now) (args .z .now) (h .3) (iota-small (args .k) (h .0) (h .2)) (c .before .before .iota .ensures))
 
 returns-3 : tie.Need-returns-3
 returns-3 c =
@@ -142,7 +142,7 @@ returns-11 c =
     let args = c .before .before .before .before .before .before .before .before .before .before .before .before .before .before .before .before .before .before .args in
     let h = kind-ready (args .k) (args .x .now) (args .y .now) (args .z .now) (args .out .now) (c .before .before .before .before .enum-told6 .given .1) (c .before .before .before .before .before .before .before .before .before .before .before .before .before .before .before .before .before .before .pre) in
     kind-is (args .k) (args .x .now) (args .y .now) (args .z .now) (args .starts) (c .before .before .before .before .enum-told6 .given .1)
-    (pad-is (args .k) (args .starts) (args .x .now) (args .y .now) (args .z .now) _ (c .before .before .before .before .before .before .before .before .first-of .ensures) (h .2) (c .before .before .pad .ensures))
+    (pad-is (args .k) (args .starts) (args .x .now) (args .y .now) (args .z .now) _ (c .before .before .before .before .before .before .before .before .first-of .ensures) (h .2) (h .3) (c .before .before .pad .ensures))
 
 returns-12 : tie.Need-returns-12
 returns-12 c =
@@ -162,7 +162,7 @@ returns-14 c =
     let args = c .before .before .before .before .before .before .before .before .before .before .before .before .before .before .before .before .before .before .before .args in
     let h = kind-ready (args .k) (args .x .now) (args .y .now) (args .z .now) (args .out .now) (c .before .before .before .before .before .kind6 .given .1) (c .before .before .before .before .before .before .before .before .before .before .before .before .before .before .before .before .before .before .before .pre) in
     kind-is (args .k) (args .x .now) (args .y .now) (args .z .now) (args .starts) (c .before .before .before .before .before .kind6 .given .1)
-    (reduce-is (args .k) (args .starts) (args .x .now) (args .y .now) (args .z .now) (c .before .before .before .before .before .kind6 .given .0 .0) _ (c .before .before .before .before .before .before .before .before .before .first-of .ensures) (c .before .before .reduce .ensures))
+    (reduce-is (args .k) (args .starts) (args .x .now) (args .y .now) (args .z .now) (c .before .before .before .before .before .kind6 .given .0 .0) _ (c .before .before .before .before .before .before .before .before .before .first-of .ensures) (h .1) (c .before .before .reduce .ensures))
 
 pub fill-spec : {M : Type 1} → statement M
 fill-spec =

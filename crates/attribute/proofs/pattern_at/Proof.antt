@@ -9,7 +9,7 @@ use Rattle.attribute.proofs.pattern_at.Tie as tie
 
 returns : tie.Need-returns
 unfolding patternAt
-returns c = ap (λ (n : Number). n .bits) (c .number-in .ensures)
+returns c = ap (λ (n : Number). n .bits) (c .pattern-in .ensures)
 
 pub pattern-at-spec : {M : Type 1} → statement M
 pattern-at-spec = tie.close (tie.spec (λ c κs. search needs) returns)

@@ -4,8 +4,8 @@ use Prim.Native.Nat.{ℕ}
 use denote.Ref.{now}
 use borrow.Author.Needs.{needs}
 use Rattle.evaluation.specs.Evaluated.{Evaluated}
-use Rattle.evaluation.specs.Order.{OrderFreeAnswer}
-use Rattle.bench.specs.Numbers.{answerOf}
+use Rattle.answers.specs.FreeRuns.{FreeOfOrder}
+use Rattle.bench.specs.Numbers.{threeNumbers}
 use Rattle.bench.proofs.bench_evaluate.Statement.{statement}
 use Rattle.bench.proofs.bench_evaluate.Tie as tie
 
@@ -13,14 +13,14 @@ use Rattle.bench.proofs.bench_evaluate.Tie as tie
 -- the results alone. It is of the text and the inputs of the call, of the answer's number and of the store that is left.
 whole-claim : tie.Need-returns → (c : tie.After-answer-of)
     → (store : List ℕ)
-    × OrderFreeAnswer (now (c .before .before .before .before .before .before .before .before .args .text)) (now (c .before .before .before .before .before .before .before .before .args .inputs)) (c .answer-of .result .refusal) store
+    × FreeOfOrder (now (c .before .before .before .before .before .before .before .before .args .text)) (now (c .before .before .before .before .before .before .before .before .args .inputs)) (c .answer-of .result .refusal) store
 whole-claim n c = (_, n c .1 .1)
 
 returns : tie.Need-returns
 returns c =
     let r = c .answer-of .ensures in
-    let e = c .before .before .before .evaluate .ensures .0 in
-    (r ∙ ap (λ (a : Evaluated). answerOf (a .refusal)) e, (ap (λ (a : Evaluated). a .store) e, rw r (c .before .before .before .evaluate .ensures .1)))
+    let e = c .before .before .before .evaluate .ensures .2 in
+    (r ∙ ap (λ (a : Evaluated). threeNumbers (a .refusal)) e, (ap (λ (a : Evaluated). a .store) e, rw r (c .before .before .before .evaluate .ensures .3)))
 
 pub bench-evaluate-spec : {M : Type 1} → statement M
 bench-evaluate-spec = tie.close (tie.spec (λ c κs. search needs) (λ c κs. search needs) (λ c. search needs) returns)

@@ -1,6 +1,6 @@
 use Rattle.dimrules.proofs.CountLaw.{count-in, count-out}
-use Rattle.dimrules.specs.Dims.{isIn, keptBelow}
-use Rattle.dimrules.specs.Count.{countBelow}
+use Rattle.dimrules.specs.Dims.{listOf, keptBelow}
+use Rattle.shape.specs.Place.{isIn, countBelow}
 use native.Mathlib.Omega.{arith}
 use Prim.Native.Nat.{ℕ, _≤_, _-_, _+_}
 use mathlib.Core.Logic.{⊎-elim}
@@ -11,7 +11,7 @@ use Rattle.dimrules.proofs.kept_below.Statement.{statement}
 use Rattle.dimrules.proofs.kept_below.Tie as tie
 
 abbrev Inv-loop : tie.InvT-loop
-Inv-loop a d p₀ e₀ p e = (e ≤ d) × (p ≡ countBelow (λ k. not (isIn a k)) e) × (p ≤ e)
+Inv-loop a d p₀ e₀ p e = (e ≤ d) × (p ≡ countBelow (λ k. not (isIn (listOf a) k)) e) × (p ≤ e)
 
 abbrev μ-loop : tie.MeasureT-loop
 μ-loop a d p₀ e₀ p e = d - e
@@ -26,8 +26,8 @@ loop-again c =
     let i = c .before .before .before .loop .inv .1 in (
       omega arith,
       ⊎-elim
-          (λ w. w .1 ∙ ap (λ (x : ℕ). x + 1) i ∙ sym (count-in (λ k. not (isIn (s .args .a) k)) e (ap not (sym (c .before .is-in .ensures)) ∙ w .0 .taken)))
-          (λ w. w .1 ∙ i ∙ sym (count-out (λ k. not (isIn (s .args .a) k)) e (ap not (sym (c .before .is-in .ensures)) ∙ w .0 .left)))
+          (λ w. w .1 ∙ ap (λ (x : ℕ). x + 1) i ∙ sym (count-in (λ k. not (isIn (listOf (s .args .a)) k)) e (ap not (sym (c .before .is-in .ensures)) ∙ w .0 .taken)))
+          (λ w. w .1 ∙ i ∙ sym (count-out (λ k. not (isIn (listOf (s .args .a)) k)) e (ap not (sym (c .before .is-in .ensures)) ∙ w .0 .left)))
           (c .if1 .came),
       ⊎-elim (λ w. omega arith) (λ w. omega arith) (c .if1 .came),
     )
@@ -37,7 +37,7 @@ unfolding keptBelow
 returns c =
     let s = c .before .before in
     let e : c .before .loop .e ≡ s .args .d = omega arith in
-    c .before .loop .inv .1 ∙ ap (λ (x : ℕ). countBelow (λ k. not (isIn (s .args .a) k)) x) e
+    c .before .loop .inv .1 ∙ ap (λ (x : ℕ). countBelow (λ k. not (isIn (listOf (s .args .a)) k)) x) e
 
 pub kept-below-spec : {M : Type 1} → statement M
 kept-below-spec =

@@ -7,7 +7,8 @@ use lib.ListN.{take, drop, set, replicate}
 use Rattle.lists.specs.Lists.{pick, tab}
 use Rattle.lists.proofs.TabLaw.{fill-step, length-tab}
 use Rattle.shape.specs.Index.{at}
-use Rattle.reduction.specs.Rows.{isIn, countBelow, inserted}
+use Rattle.shape.specs.Place.{isIn, countBelow}
+use Rattle.reduction.specs.Rows.{inserted}
 use Rattle.reduction.proofs.CollectLaw.{count-step, one-le}
 use borrow.Author.Needs.{needs}
 use Rattle.reduction.proofs.insert_index.Statement.{statement}

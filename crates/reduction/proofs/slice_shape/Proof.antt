@@ -7,7 +7,8 @@ use native.Mathlib.Omega.{arith}
 use lib.ListN.{length, take, set, length-set}
 use Rattle.shape.specs.Index.{at, inSix}
 use Rattle.shape.specs.Dims.{shapeFrom}
-use Rattle.reduction.specs.Rows.{isIn, collect}
+use Rattle.shape.specs.Place.{isIn}
+use Rattle.reduction.specs.Rows.{collect}
 use Rattle.reduction.proofs.CollectLaw.{collect-few, collect-taken, collect-left, collect-store, collect-dims, length-taken}
 use borrow.Author.Needs.{needs}
 use Rattle.reduction.proofs.slice_shape.Statement.{statement}

@@ -1,4 +1,4 @@
-use Rattle.rules.specs.Constraints.{compareTypeIs}
+use Rattle.op_checks.specs.OpChecks.{compareTypeIs}
 use Rattle.optable.proofs.TableLaw.{choices-count, signed-place, unsigned-place}
 use borrow.Author.Tests.{eq-eqb, ne-eqb}
 use borrow.Author.Needs.{needs}

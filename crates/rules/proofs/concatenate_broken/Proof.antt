@@ -1,4 +1,5 @@
-use Rattle.rules.specs.Constraints.{concatenateConstraints}
+use Rattle.rule_laws.proofs.Tests.{concatenateTests}
+use Rattle.rule_laws.proofs.JoinLaw.{same-concatenate}
 use native.Mathlib.Omega.{arith}
 use borrow.Author.Needs.{needs}
 use Rattle.rules.proofs.concatenate_broken.Statement.{statement}
@@ -14,8 +15,10 @@ same-but-one-requires : tie.Need-same-but-one-requires
 same-but-one-requires c κs = c .before .before .before .before .before .before .before .before .pre .1 0 (omega arith)
 
 returns : tie.Need-returns
-unfolding concatenateConstraints
-returns c = simp (c .first-broken .ensures, c .before .both .ensures, c .before .before .dim-at .ensures, c .before .before .before .same-but-one .ensures, c .before .before .before .before .same-element .ensures, c .before .before .before .before .before .below .ensures, c .before .before .before .before .before .before .rank-of .ensures, c .before .before .before .before .before .before .before .all-types2 .ensures, c .before .before .before .before .before .before .before .before .all-types .ensures, c .before .before .before .before .before .before .before .before .before .sum-dims .ensures)
+unfolding concatenateTests
+returns c =
+    let a = c .before .before .before .before .before .before .before .before .before .before .before .before .args in
+    rw (same-concatenate _ (a .arity) (a .dimension) (a .r)) (simp (c .first-broken .ensures, c .before .both .ensures, c .before .before .dim-at .ensures, c .before .before .before .same-but-one .ensures, c .before .before .before .before .same-element .ensures, c .before .before .before .before .before .below .ensures, c .before .before .before .before .before .before .rank-of .ensures, c .before .before .before .before .before .before .before .all-types2 .ensures, c .before .before .before .before .before .before .before .before .all-types .ensures, c .before .before .before .before .before .before .before .before .before .sum-dims .ensures))
 
 pub concatenate-broken-spec : {M : Type 1} → statement M
 concatenate-broken-spec =

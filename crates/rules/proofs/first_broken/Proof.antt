@@ -1,6 +1,6 @@
 use Rattle.rules.proofs.BrokenLaw.{first-step, first-end}
 use borrow.Author.Needs.{needs}
-use Rattle.rules.specs.Broken.{firstFrom, firstBroken}
+use Rattle.rule_laws.specs.Broken.{firstFrom, firstBroken}
 use Rattle.lists.specs.Lists.{pick}
 use borrow.Author.Tests.{not-true, not-false}
 use lib.ListN.{drop, getD}

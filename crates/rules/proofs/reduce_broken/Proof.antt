@@ -1,4 +1,9 @@
-use Rattle.rules.specs.Constraints.{reduceConstraints}
+use mathlib.Core.Path.{_≡_}
+use Prim.Native.Nat.{_≤_}
+use native.Mathlib.Omega.{arith}
+use lib.ListN.{length}
+use Rattle.rule_laws.proofs.Tests.{reduceTests}
+use Rattle.rule_laws.proofs.ReduceLaw.{same-reduce}
 use borrow.Author.Needs.{needs}
 use Rattle.rules.proofs.reduce_broken.Statement.{statement}
 use Rattle.rules.proofs.reduce_broken.Tie as tie
@@ -13,8 +18,13 @@ all-dims-requires-3 : tie.Need-all-dims-requires-3
 all-dims-requires-3 c κs = rw (c .before .before .before .before .before .before .before .before .sides-of .ensures) (record { sized = c .before .before .before .before .before .before .before .before .before .before .pre .0; few = c .before .before .before .before .before .before .before .before .before .before .pre .1 })
 
 returns : tie.Need-returns
-unfolding reduceConstraints
-returns c = simp (c .first-broken .ensures, c .before .same-element2 .ensures, c .before .before .both2 .ensures, c .before .before .before .all-dims3 .ensures, c .before .before .before .before .rank-of2 .ensures, c .before .before .before .before .before .both .ensures, c .before .before .before .before .before .before .is-argument2 .ensures, c .before .before .before .before .before .before .before .is-argument .ensures, c .before .before .before .before .before .before .before .before .all-dims2 .ensures, c .before .before .before .before .before .before .before .before .before .all-dims .ensures, c .before .before .before .before .before .before .before .before .before .before .same-element .ensures, c .before .before .before .before .before .before .before .before .before .before .before .kept-below .ensures, c .before .before .before .before .before .before .before .before .before .before .before .before .sides-of .ensures, c .before .before .before .before .before .before .before .before .before .before .before .before .before .rank-of .ensures)
+unfolding reduceTests
+returns c =
+    let a = c .before .before .before .before .before .before .before .before .before .before .before .before .before .before .args in
+    let g = c .before .before .before .before .before .before .before .before .before .before .before .before .before .before .good .1 .1 .1 .1 .0 in
+    let six : length (a .dimensions .list) ≡ 6 = search needs in
+    let few : a .dimensions .count ≤ length (a .dimensions .list) = omega (arith, six, c .before .before .before .before .before .before .before .before .before .before .before .before .before .before .pre .1) in
+    rw (same-reduce (a .x) (a .v) (a .a) (a .b) (a .dimensions) (a .r) few) (simp (c .first-broken .ensures, c .before .same-element2 .ensures, c .before .before .both2 .ensures, c .before .before .before .all-dims3 .ensures, c .before .before .before .before .rank-of2 .ensures, c .before .before .before .before .before .both .ensures, c .before .before .before .before .before .before .is-argument2 .ensures, c .before .before .before .before .before .before .before .is-argument .ensures, c .before .before .before .before .before .before .before .before .all-dims2 .ensures, c .before .before .before .before .before .before .before .before .before .all-dims .ensures, c .before .before .before .before .before .before .before .before .before .before .same-element .ensures, c .before .before .before .before .before .before .before .before .before .before .before .kept-below .ensures, c .before .before .before .before .before .before .before .before .before .before .before .before .sides-of .ensures, c .before .before .before .before .before .before .before .before .before .before .before .before .before .rank-of .ensures))
 
 pub reduce-broken-spec : {M : Type 1} → statement M
 reduce-broken-spec =

@@ -1,11 +1,14 @@
-use Rattle.rules.specs.Constraints.{selectConstraints}
+use Rattle.rule_laws.proofs.Tests.{selectTests}
+use Rattle.rule_laws.proofs.TypesLaw.{same-select}
 use borrow.Author.Needs.{needs}
 use Rattle.rules.proofs.select_broken.Statement.{statement}
 use Rattle.rules.proofs.select_broken.Tie as tie
 
 returns : tie.Need-returns
-unfolding selectConstraints
-returns c = simp (c .first-broken .ensures, c .before .both .ensures, c .before .before .same-type2 .ensures, c .before .before .before .same-type .ensures, c .before .before .before .before .either .ensures, c .before .before .before .before .before .same-shape .ensures, c .before .before .before .before .before .before .rank-of .ensures)
+unfolding selectTests
+returns c =
+    let a = c .before .before .before .before .before .before .before .args in
+    rw (same-select (a .pred) (a .t) (a .f) (a .r)) (simp (c .first-broken .ensures, c .before .both .ensures, c .before .before .same-type2 .ensures, c .before .before .before .same-type .ensures, c .before .before .before .before .either .ensures, c .before .before .before .before .before .same-shape .ensures, c .before .before .before .before .before .before .rank-of .ensures))
 
 pub select-broken-spec : {M : Type 1} → statement M
 select-broken-spec =

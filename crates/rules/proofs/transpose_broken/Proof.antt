@@ -1,4 +1,9 @@
-use Rattle.rules.specs.Constraints.{transposeConstraints}
+use mathlib.Core.Path.{_≡_}
+use Prim.Native.Nat.{_≤_}
+use native.Mathlib.Omega.{arith}
+use lib.ListN.{length}
+use Rattle.rule_laws.proofs.Tests.{transposeTests}
+use Rattle.rule_laws.proofs.TransposeLaw.{same-transpose}
 use borrow.Author.Needs.{needs}
 use Rattle.rules.proofs.transpose_broken.Statement.{statement}
 use Rattle.rules.proofs.transpose_broken.Tie as tie
@@ -13,8 +18,13 @@ all-dims-requires-3 : tie.Need-all-dims-requires-3
 all-dims-requires-3 c κs = rw (c .before .before .before .before .before .before .before .sides-of .ensures) (record { sized = c .before .before .before .before .before .before .before .before .before .pre .0; few = c .before .before .before .before .before .before .before .before .before .pre .1 })
 
 returns : tie.Need-returns
-unfolding transposeConstraints
-returns c = simp (c .first-broken .ensures, c .before .both3 .ensures, c .before .before .all-dims3 .ensures, c .before .before .before .rank-of2 .ensures, c .before .before .before .before .both2 .ensures, c .before .before .before .before .before .all-dims2 .ensures, c .before .before .before .before .before .before .both .ensures, c .before .before .before .before .before .before .before .all-dims .ensures, c .before .before .before .before .before .before .before .before .before .same-element .ensures, c .before .before .before .before .before .before .before .before .before .before .sides-of .ensures, c .before .before .before .before .before .before .before .before .before .before .before .rank-of .ensures)
+unfolding transposeTests
+returns c =
+    let a = c .before .before .before .before .before .before .before .before .before .before .before .before .args in
+    let g = c .before .before .before .before .before .before .before .before .before .before .before .before .good .1 .0 in
+    let six : length (a .permutation .list) ≡ 6 = search needs in
+    let few : a .permutation .count ≤ length (a .permutation .list) = omega (arith, six, c .before .before .before .before .before .before .before .before .before .before .before .before .pre .1) in
+    rw (same-transpose (a .x) (a .permutation) (a .r) few) (simp (c .first-broken .ensures, c .before .both3 .ensures, c .before .before .all-dims3 .ensures, c .before .before .before .rank-of2 .ensures, c .before .before .before .before .both2 .ensures, c .before .before .before .before .before .all-dims2 .ensures, c .before .before .before .before .before .before .both .ensures, c .before .before .before .before .before .before .before .all-dims .ensures, c .before .before .before .before .before .before .before .before .before .same-element .ensures, c .before .before .before .before .before .before .before .before .before .before .sides-of .ensures, c .before .before .before .before .before .before .before .before .before .before .before .rank-of .ensures))
 
 pub transpose-broken-spec : {M : Type 1} → statement M
 transpose-broken-spec =

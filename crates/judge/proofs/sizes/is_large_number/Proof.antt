@@ -7,7 +7,7 @@ use Rattle.judge.proofs.sizes.is_large_number.Tie as tie
 
 returns : tie.Need-returns
 unfolding largeNumber
-returns c = simp (← c .before .before .before .is-number .ensures, c .before .before .if1 .taken, ← c .before .number-in .ensures)
+returns c = simp (← c .before .before .before .is-number .ensures, c .before .before .if1 .taken, ← c .before .pattern-in .ensures)
 
 returns-2 : tie.Need-returns-2
 unfolding largeNumber

@@ -1,0 +1,4 @@
+pub mod SlotsLaw
+pub mod NodeSameLaw
+pub mod OpNodeLaw
+pub mod AnswerLaw

@@ -1,0 +1,3 @@
+pub mod WrittenNodes
+pub mod Answered
+pub mod FreeRuns

@@ -1,0 +1,13 @@
+pub mod ValueRun
+pub mod FormLaw
+pub mod PieceLaw
+pub mod ViewLaw
+pub mod PiecesLaw
+pub mod ReadLaw
+pub mod SomeLaw
+pub mod FitLaw
+pub mod RowLaw
+pub mod NamedLaw
+pub mod WholeLaw
+pub mod Theorems
+pub mod BlankLaw

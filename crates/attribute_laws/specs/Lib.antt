@@ -1,0 +1,2 @@
+pub mod ValueForms
+pub mod AttributesRead

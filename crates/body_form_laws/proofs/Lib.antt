@@ -1,0 +1,11 @@
+pub mod LevelLaw
+pub mod CutLaw
+pub mod PiecesLaw
+pub mod OneBodyLaw
+pub mod ArgumentsLaw
+pub mod OrderLaw
+pub mod OpPieceLaw
+pub mod TestLaw
+pub mod TwoOpsLaw
+pub mod FormLaw
+pub mod SameBodyLaw

@@ -1,0 +1,12 @@
+pub mod MachineLaw
+pub mod OpenLaw
+pub mod CountedLaw
+pub mod WindowTable
+pub mod WindowLaw
+pub mod ItemsLaw
+pub mod RunLaw
+pub mod FirstLaw
+pub mod TestsLaw
+pub mod Theorems
+pub mod RefusalLaw
+pub mod Examples

@@ -1,0 +1,2 @@
+pub mod ColumnPins
+pub mod AttributeKindPins

@@ -1,0 +1,5 @@
+pub mod Bytes
+pub mod Tokens
+pub mod DenseValues
+pub mod Prints
+pub mod NameBytes

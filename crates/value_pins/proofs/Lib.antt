@@ -1,0 +1,3 @@
+pub mod TypePins
+pub mod ScalarPins
+pub mod ShapePins

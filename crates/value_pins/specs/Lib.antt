@@ -1,0 +1,4 @@
+pub mod ValuePin
+pub mod Types
+pub mod Scalars
+pub mod Shapes
