@@ -8,7 +8,7 @@ use Rattle.verdict_pins.proofs.Pin.{Pin, pin, Pinned, pinned}
 
 unfoldable pub insidePins : List Pin
 insidePins =
-    -- eight inputs, eight results
+    -- eight inputs
     pin "func.func @m(%0: tensor<i8>, %1: tensor<i8>, %2: tensor<i8>, %3: tensor<i8>, %4: tensor<i8>, %5: tensor<i8>, %6: tensor<i8>, %7: tensor<i8>) -> tensor<i8> {\"func.return\"(%7) : (tensor<i8>) -> ()}" 0 0 0 ∷
     -- convert to another type
     pin "func.func @m(%a: tensor<i8>) {%b = \"stablehlo.convert\"(%a) : (tensor<i8>) -> tensor<ui16> \"func.return\"() : () -> ()}" 0 0 0 ∷
