@@ -9,7 +9,7 @@ use native.Mathlib.Nat.{not-suc-le-zero, le-of-suc-le-suc}
 use native.Mathlib.Omega.{arith}
 use lib.Dec.{eqb, ltb, leb}
 use lib.ListN.{length, getD, take}
-use borrow.Author.Tests.{eqb-true, leb-true, leb-false}
+use borrow.Author.Tests.{eqb-true, ltb-true, ltb-false}
 use Rattle.lists.specs.Lists.{pick, tab, firstWhere, All}
 use Rattle.lists.proofs.AllLaw.{all-map}
 use Rattle.lists.proofs.TabLaw.{tab-cong, getD-tab, length-tab}
@@ -19,7 +19,7 @@ use Rattle.element.specs.Types.{isValue}
 use Rattle.elementwise.specs.Elementwise.{Tensor}
 use Rattle.dimrules.specs.Count.{firstFailing, everywhere}
 use Rattle.dimrules.proofs.CountLaw.{holds-at}
-use Rattle.checks.proofs.CheckLaw.{first-facts, first-none}
+use Rattle.inputs.proofs.InputsLaw.{input-at}
 use Rattle.run.specs.Run.{Program, Answer, End, ended, resultsOf}
 use Rattle.run.specs.Tree.{Tree}
 use Rattle.run.specs.Ways.{OrderOf, TreesAllowed, freeRun, evaluation}
@@ -63,6 +63,21 @@ first-alike : (t u : ℕ → Bool) (n : ℕ) (f : ℕ → ℕ) → ((i : ℕ) �
 unfolding firstWhere
 first-alike t u zero f h = refl
 first-alike t u (suc n) f h = rw (h 0 (omega arith), first-alike t u n (λ i. f (suc i)) (λ i q. h (suc i) (omega arith))) refl
+
+-- a slot before the end of n values is one of theirs
+slot-in : (text : List ℕ) (read : textRefusal text .number ≡ 0) (s n : ℕ) → s < offsetAt (vs text read) n →
+    (i : ℕ) × (k : ℕ) × ((i < n) × (k < sizeAt (vs text read) i) × (s ≡ offsetAt (vs text read) i + k))
+unfolding offsetAt
+slot-in text read s zero h = absurd (not-suc-le-zero h)
+slot-in text read s (suc n) h = go (λ l. slot-in text read s n l) (ltb s (offsetAt (vs text read) n)) refl
+  where
+    go : (s < offsetAt (vs text read) n → (i : ℕ) × (k : ℕ) × ((i < n) × (k < sizeAt (vs text read) i) × (s ≡ offsetAt (vs text read) i + k))) → (b : Bool) → ltb s (offsetAt (vs text read) n) ≡ b →
+        (i : ℕ) × (k : ℕ) × ((i < suc n) × (k < sizeAt (vs text read) i) × (s ≡ offsetAt (vs text read) i + k))
+    go before true e = let w = before (ltb-true s (offsetAt (vs text read) n) e) in (w .0, w .1, ((let z = w .2 .0 in omega arith), w .2 .1, w .2 .2))
+    go before false e =
+        let l = ltb-false s (offsetAt (vs text read) n) e in
+        let z : s < offsetAt (vs text read) n + sizeAt (vs text read) n = h in
+        (n, s - offsetAt (vs text read) n, (omega arith, omega arith, omega arith))
 
 module _ (text : List ℕ) (accepted : verdict text .number ≡ 0) where
   read : textRefusal text .number ≡ 0
@@ -170,54 +185,21 @@ module _ (text : List ℕ) (accepted : verdict text .number ≡ 0) where
   unfolding inputSlots
   given-same = slots-same (vs text read) (vs text read .inputs) (inputsWritten text) inputs-known
 
-  -- the input that a slot belongs to
-  input-there : (s : ℕ) → s < inputSlots (vs text read) →
-      (inputOf (vs text read) s < vs text read .inputs) × (offsetAt (vs text read) (inputOf (vs text read) s) ≤ s) × (s < offsetAt (vs text read) (inputOf (vs text read) s + 1))
-  unfolding inputOf inputSlots
-  input-there s h = found (firstFailing n t) refl
-    where
-      n : ℕ
-      n = vs text read .inputs
-
-      t : ℕ → Bool
-      t i = leb (offsetAt (vs text read) (i + 1)) s
-
-      not-all : firstFailing n t ≡ n → ⊥
-      not-all e = by n refl
-        where
-          by : (m : ℕ) → n ≡ m → ⊥
-          by zero q = let z : s < offsetAt (vs text read) 0 = subst (λ (m : ℕ). s < offsetAt (vs text read) m) q h in not-suc-le-zero z
-          by (suc m) q =
-              let all = first-none n t (firstFailing n t) refl e in
-              let l = leb-true (offsetAt (vs text read) (m + 1)) s (holds-at n t all m (omega arith)) in
-              let z : n ≡ m + 1 = omega arith in
-              let w : s < offsetAt (vs text read) (m + 1) = subst (λ (k : ℕ). s < offsetAt (vs text read) k) z h in
-              omega arith
-
-      found : (d : ℕ) → d ≡ firstFailing n t → (d < n) × (offsetAt (vs text read) d ≤ s) × (s < offsetAt (vs text read) (d + 1))
-      found d e =
-          let f = first-facts n t d e (λ q. not-all (sym e ∙ q)) in
-          (f .0, start d (f .1), leb-false (offsetAt (vs text read) (d + 1)) s (f .2))
-        where
-          start : (d : ℕ) → ((i : ℕ) → i < d → t i ≡ true) → offsetAt (vs text read) d ≤ s
-          unfolding offsetAt
-          start zero g = omega arith
-          start (suc d) g = let z : d + 1 ≡ suc d = omega arith in subst (λ (k : ℕ). offsetAt (vs text read) k ≤ s) z (leb-true (offsetAt (vs text read) (d + 1)) s (g d (omega arith)))
-
   slot-typed : (s : ℕ) → s < inputSlots (vs text read) → getD (slotTypes (inputsWritten text)) s I1 ≡ getD (vs text read .list) (inputOf (vs text read) s) noValue .ty .element
+  unfolding inputSlots
   slot-typed s h =
-      let w = input-there s h in
-      let i = inputOf (vs text read) s in
+      let w = slot-in text read s (vs text read .inputs) h in
+      let i = w .0 in
+      let k = w .1 in
+      let inside = w .2 .0 in
+      let below = w .2 .1 in
+      let place = w .2 .2 in
       let c = inputs-known .count in
-      let b = before-same (vs text read) (vs text read .inputs) (inputsWritten text) inputs-known i (let z = w .0 in omega arith) in
-      let next = offset-next (vs text read) i in
-      let size : slotsOf (getD (inputsWritten text) i noValue) ≡ sizeAt (vs text read) i = size-same (vs text read) (vs text read .inputs) (inputsWritten text) inputs-known i (w .0) in
-      let lo = w .1 in
-      let hi = w .2 in
-      let place : slotsBefore (inputsWritten text) i + (s - offsetAt (vs text read) i) ≡ s = omega arith in
-      ap (λ (m : ℕ). getD (slotTypes (inputsWritten text)) m I1) (sym place)
-      ∙ slot-type (inputsWritten text) i (s - offsetAt (vs text read) i) (let z = w .0 in omega arith) (omega arith)
-      ∙ ap (λ (v : Value). v .ty .element) (inputs-known .held i (w .0))
+      let size = size-same (vs text read) (vs text read .inputs) (inputsWritten text) inputs-known i inside in
+      let begins : slotsBefore (inputsWritten text) i + k ≡ s = ap (λ (n : ℕ). n + k) (before-same (vs text read) (vs text read .inputs) (inputsWritten text) inputs-known i (omega arith)) ∙ sym place in
+      let belongs : inputOf (vs text read) s ≡ i = ap (inputOf (vs text read)) place ∙ input-at (vs text read) i k inside below in
+      ap (λ (m : ℕ). getD (slotTypes (inputsWritten text)) m I1) (sym begins) ∙ slot-type (inputsWritten text) i k (omega arith) (omega arith)
+      ∙ ap (λ (v : Value). v .ty .element) (inputs-known .held i inside) ∙ ap (λ (m : ℕ). getD (vs text read .list) m noValue .ty .element) (sym belongs)
 
   unfit-same : (inputs : List ℕ) → unfitSlot (inputsWritten text) inputs ≡ firstForeign (vs text read) inputs
   unfolding unfitSlot firstForeign firstFailing slotFits
@@ -258,7 +240,7 @@ module _ (text : List ℕ) (accepted : verdict text .number ≡ 0) where
   -- ---- demand 3 of it
 
   claim-same : (inputs : List ℕ) (number : ℕ) (store : List ℕ) → OrderFreeAnswer text inputs number store → FreeOfOrder text inputs number store
-  unfolding OrderFreeAnswer FreeOfOrder
+  unfolding OrderFreeAnswer FreeOfOrder valuesOf nodesOf nodesIn
   claim-same inputs number store claim v starts order ordered trees allowed =
       let c = claim accepted (subst StartsAtIdentity (sym program-same) starts) order (subst (λ (q : Program Node). OrderOf hlo q order) (sym program-same) ordered) trees (subst (λ (q : Program Node). TreesAllowed hlo q trees) (sym program-same) allowed) in
       let run : freeRun hlo (nodesOf text) (tensorsOf text inputs) order trees 0 ≡ freeRun hlo (programWritten text) (tensorsFrom (inputsWritten text) inputs) order trees 0 =
@@ -271,7 +253,6 @@ module _ (text : List ℕ) (accepted : verdict text .number ≡ 0) where
       })
     where
       returned-within : All (λ i. i < valuesOf text .count) (programWritten text .returns)
-      unfolding valuesOf nodesOf nodesIn
       returned-within =
           let a = accepted-program text accepted .returned in
           let v = values .inputs in

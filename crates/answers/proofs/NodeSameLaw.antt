@@ -82,7 +82,7 @@ readBy class.Reduce = dimensions ∷ []
 abbrev pub readNames : List ℕ
 readNames = iotaDimension ∷ dimension ∷ broadcastDimensions ∷ permutation ∷ startIndices ∷ strides ∷ edgePaddingLow ∷ interiorPadding ∷ dimensions ∷ []
 
-implied : Bool → Bool → Bool
+unfoldable pub implied : Bool → Bool → Bool
 implied true b = b
 implied false b = true
 

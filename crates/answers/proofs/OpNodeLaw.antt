@@ -29,6 +29,7 @@ use Rattle.optable.specs.declared.Class.{Class}
 use Rattle.optable.specs.declared.Class.the-variants as class
 use Rattle.optable.specs.Table.{Op as OpRow, ops, rowOf as rowFor, value, comparisonDirection, directionAt, noAttribute}
 use Rattle.judge.specs.Judge.{textRefusal}
+use Rattle.program.specs.declared.Parts.{Parts}
 use Rattle.program.specs.Program.{programOf}
 use Rattle.places.specs.Places.{operandName, bodyOpen, countOf, placeOf}
 use Rattle.values.specs.declared.Value.{Value}
@@ -41,7 +42,7 @@ use Rattle.facts.specs.Facts.{kindBy, nodeType, integersOf, nodeFor, ListRead, 
 use Rattle.nodes.specs.Nodes.{reducerAt, kindOf, elementsOf, operandsOf, nodeAt}
 use Rattle.nodes.proofs.TypedLaw.{TypedParts, typed-parts}
 use Rattle.source.specs.Source.{AttributeText, OpText, opFrom, bodyFrom}
-use Rattle.verifier.specs.AttributeRules.{attributeNumber, attributeWith, noAttributeText, numbersNamed, choiceNamedBy, denseWritten, missingAttribute, doubledAttribute, foreignAttribute, otherKind, someOf}
+use Rattle.verifier.specs.AttributeRules.{attributeNumber, attributeWith, noAttributeText, numbersWritten, numbersNamed, choiceNamedBy, denseWritten, missingAttribute, doubledAttribute, foreignAttribute, otherKind, someOf}
 use Rattle.verifier.specs.BodyForm.{opNumber}
 use Rattle.verifier.specs.Reasons.{valueOfName, wrongAttribute, wrongDense}
 use Rattle.verifier.specs.ConstraintRules.{operandTypesOf, resultTypeOf}
@@ -68,18 +69,18 @@ wholes-are a r =
 -- an attribute that is foreign to the row does not stand
 none-with : (text allowed : List ℕ) (attrs : List AttributeText) → foreignAttribute text allowed attrs ≡ false → (n : ℕ) → among allowed n ≡ false → attributeWith text n attrs ≡ noAttributeText
 none-with text allowed [] e n f = refl
-none-with text allowed (a ∷ attrs) e n f = go (eqb (attributeNumber text a) n) refl
+none-with text allowed (a ∷ attrs) e n f = go (λ q. none-with text allowed attrs q n f) (eqb (attributeNumber text a) n) refl
   where
     parts : (x y : Bool) → not x || y ≡ false → (x ≡ true) × (y ≡ false)
     parts true y e = (refl, e)
     parts false y e = absurd (false≢true (sym e))
 
-    go : (b : Bool) → eqb (attributeNumber text a) n ≡ b → pick b a (attributeWith text n attrs) ≡ noAttributeText
-    go true q =
+    go : (foreignAttribute text allowed attrs ≡ false → attributeWith text n attrs ≡ noAttributeText) → (b : Bool) → eqb (attributeNumber text a) n ≡ b → pick b a (attributeWith text n attrs) ≡ noAttributeText
+    go rest true q =
         let w = parts (among allowed (attributeNumber text a)) (foreignAttribute text allowed attrs) e .0 in
         let z : among allowed n ≡ true = rw (eqb-true (attributeNumber text a) n q) at w in
         absurd (false≢true (sym f ∙ z))
-    go false q = none-with text allowed attrs (parts (among allowed (attributeNumber text a)) (foreignAttribute text allowed attrs) e .1) n f
+    go rest false q = rest (parts (among allowed (attributeNumber text a)) (foreignAttribute text allowed attrs) e .1)
 
 no-foreign : (m d f k : Bool) → not (m || d || f || k) ≡ true → f ≡ false
 no-foreign true d f k e = absurd (false≢true e)
@@ -115,7 +116,7 @@ module _ (text : List ℕ) (read : textRefusal text .number ≡ 0) (k : ℕ) (h 
   abbrev o-k : OpText
   o-k = o text read k
 
-  abbrev op-k : _
+  abbrev op-k : Parts
   op-k = op text read k
 
   abbrev r : OpRow
@@ -142,7 +143,7 @@ module _ (text : List ℕ) (read : textRefusal text .number ≡ 0) (k : ℕ) (h 
       no-foreign (missingAttribute text (r .required) (o-k .attributes)) (doubledAttribute text (o-k .attributes)) (foreignAttribute text allowed (o-k .attributes)) (someOf (otherKind text) (o-k .attributes)) z
 
   absent : (n : ℕ) → among allowed n ≡ false → N n ≡ []
-  absent n f = ap (λ (a : AttributeText). map _ (a .single ++ a .listed)) (none-with text allowed (o-k .attributes) foreign-none n f)
+  absent n f = ap (λ (a : AttributeText). numbersWritten text a) (none-with text allowed (o-k .attributes) foreign-none n f)
 
   long : length (o-k .operandTypes) ≡ length (o-k .operands)
   long = operands-long text op-k o-k (same text read k (omega arith)) (vs text read .list) (vs text read .inputs + k) (parts .operands)
@@ -161,7 +162,7 @@ module _ (text : List ℕ) (read : textRefusal text .number ≡ 0) (k : ℕ) (h 
   from-is : tab (operationOf text op-k (rowOf text op-k) .arity) (λ j. nodeType (typeAt (operationOf text op-k (rowOf text op-k) .types) j)) ≡ map nodeType (operandTypesOf text o-k)
   from-is =
       rw (row-is .1)
-      (tab-cong _ (λ j. nodeType (typeAt (operationOf text op-k (rowFor (row-is .0) r) .types) j)) (λ j. nodeType (typeAt (operationOf text op-k (rowFor (row-is .0) r) .types) (0 + j)))
+      (tab-cong (operationOf text op-k (rowFor (row-is .0) r) .arity) (λ j. nodeType (typeAt (operationOf text op-k (rowFor (row-is .0) r) .types) j)) (λ j. nodeType (typeAt (operationOf text op-k (rowFor (row-is .0) r) .types) (0 + j)))
       (λ j l. let z : j ≡ 0 + j = omega arith in ap (λ (i : ℕ). nodeType (typeAt (operationOf text op-k (rowFor (row-is .0) r) .types) i)) z)
       ∙ sym (map-tab nodeType (operationOf text op-k (rowFor (row-is .0) r) .arity) (λ j. typeAt (operationOf text op-k (rowFor (row-is .0) r) .types) (0 + j)))
       ∙ ap (map nodeType) (types-all text op-k o-k (same text read k (omega arith)) r (row-is .0) long))
@@ -178,11 +179,10 @@ module _ (text : List ℕ) (read : textRefusal text .number ≡ 0) (k : ℕ) (h 
       rw (a, c, row-is .1) (attributes-same N allowed absent (r .class) _ _ (right .0) (right .1))
 
   elements-are : elementsOf text op-k ≡ elementsWritten text o-k
-  unfolding elementsWritten
+  unfolding elementsWritten elementsOf
   elements-are = go (stands text op-k value) refl
     where
       go : (b : Bool) → stands text op-k value ≡ b → elementsOf text op-k ≡ elementsWritten text o-k
-      unfolding elementsOf
       go true e = attributes-read .elements e ∙ sym (rw (attributes-read .dense e) refl)
       go false e = rw (e, attributes-read .absent e) refl
 

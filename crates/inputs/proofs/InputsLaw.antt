@@ -79,7 +79,7 @@ module _ (vs : Values) where
   input-le s = failing-le (vs .inputs) (endsBy s)
 
   -- each slot of input i belongs to it
-  input-at : (i k : ℕ) → i < vs .inputs → k < sizeAt vs i → inputOf vs (offsetAt vs i + k) ≡ i
+  pub input-at : (i k : ℕ) → i < vs .inputs → k < sizeAt vs i → inputOf vs (offsetAt vs i + k) ≡ i
   unfolding inputOf
   input-at i k h b =
       let s = offsetAt vs i + k in

@@ -8,6 +8,7 @@ use Rattle.scan.specs.Quantized.{signEnd, integerEnd, fractionEnd, scientificEn
 use Rattle.scan.specs.TensorText.{elementEnd, typeClose}
 use Rattle.text.specs.Lex.{markToken, nameEnd, nameToken, signToken, quoteToken, plainWord, tensorToken, wordToken, lexeme, tokenAt}
 use Rattle.text.specs.Names.{wordIs}
+use Rattle.element.specs.Types.{slotFor}
 use Rattle.types.specs.Numbers.{digitsFrom, magnitudeOf, numberOf, inType, numberIn}
 use Rattle.types.specs.Tensors.{widthNamed, elementNamed, dimensionsFrom, countOf, allFit, sizePassed, typed, foreign, typeAfter, typeOf}
 use Rattle.optable.specs.Names.{same, placeIn}
@@ -20,5 +21,5 @@ use Rattle.attributes.specs.Attributes.{choiceFits, denseFits, kindFits}
 use Rattle.table_pins.specs.AttributeKinds.{AttributeKindPinsHold}
 
 pub attribute-kind-pins : AttributeKindPinsHold
-unfolding firstWhere isLetter isDigit isSpace isSigil isSign inRun runFrom runEnd startsWith inComment skipFrom skipEnd byteEnd wordEnd digitsEnd sizeNext shapeFrom shapeEnd complexEnd signEnd integerEnd fractionEnd scientificEnd floatEnd colonEnd parameterEnd moreEnd parametersEnd storageEnd quantizedEnd elementEnd typeClose markToken nameEnd nameToken signToken quoteToken plainWord tensorToken wordToken lexeme tokenAt wordIs digitsFrom magnitudeOf numberOf inType numberIn widthNamed elementNamed dimensionsFrom countOf allFit sizePassed typed foreign typeAfter typeOf typeIn same placeIn attributes attributeNames attributeKind choiceKinds choiceKindNames choiceForm choices choiceNames choiceKind saidAt findAttribute findChoiceKind findChoice tokenAfter wordForm choiceAt formAt endsLiteral closeFrom denseAt booleanOf literalOf andThen markAt before oneAt itemsAt denseListAt sameAt denseValue choiceFits denseFits kindFits
+unfolding slotFor firstWhere isLetter isDigit isSpace isSigil isSign inRun runFrom runEnd startsWith inComment skipFrom skipEnd byteEnd wordEnd digitsEnd sizeNext shapeFrom shapeEnd complexEnd signEnd integerEnd fractionEnd scientificEnd floatEnd colonEnd parameterEnd moreEnd parametersEnd storageEnd quantizedEnd elementEnd typeClose markToken nameEnd nameToken signToken quoteToken plainWord tensorToken wordToken lexeme tokenAt wordIs digitsFrom magnitudeOf numberOf inType numberIn widthNamed elementNamed dimensionsFrom countOf allFit sizePassed typed foreign typeAfter typeOf typeIn same placeIn attributes attributeNames attributeKind choiceKinds choiceKindNames choiceForm choices choiceNames choiceKind saidAt findAttribute findChoiceKind findChoice tokenAfter wordForm choiceAt formAt endsLiteral closeFrom denseAt booleanOf literalOf andThen markAt before oneAt itemsAt denseListAt sameAt denseValue choiceFits denseFits kindFits
 attribute-kind-pins = record { attributes = refl; choices = refl; words = refl }

@@ -2,3 +2,4 @@ pub mod BytePins
 pub mod TokenPins
 pub mod DensePins
 pub mod PrintPins
+pub mod NamePins

@@ -118,6 +118,36 @@ firstTokens =
     ∷ first "tensors<i8>" wordKind 0 7
     ∷ first "tensor<2x>" wordKind 0 6
     ∷ first "tensor< i8>" wordKind 0 6
+    ∷ first "tensor<12x?x3xi8>" tensorKind 0 17
+    ∷ first "tensor<?2xi8>" wordKind 0 6
+    ∷ first "tensor<2?xi8>" wordKind 0 6
+    ∷ first "tensor<2x3>" wordKind 0 6
+    ∷ first "tensor<2 xi8>" wordKind 0 6
+    -- 000, Types: complex and quantized elements are well formed, so that refusal 3 names them
+    ∷ first "tensor<2xcomplex<f32>>" tensorKind 0 22
+    ∷ first "tensor<complex<f32>" wordKind 0 6
+    ∷ first "tensor<complex<2>>" wordKind 0 6
+    ∷ first "tensor<!quant.uniform<i8:f32,1E+5>>" tensorKind 0 35
+    ∷ first "tensor<!quant.uniform<i8:f32,1e5>>" tensorKind 0 34
+    ∷ first "tensor<!quant.uniform<i8:f32,-0.5:7>>" tensorKind 0 37
+    ∷ first "tensor<!quant.uniform<i8:f32,+2.:-1>>" tensorKind 0 37
+    ∷ first "tensor<!quant.uniform<i8<0:10>:f32,2.0>>" tensorKind 0 40
+    ∷ first "tensor<!quant.uniform<i8<-8:+7>:f32:1,2.0>>" tensorKind 0 43
+    ∷ first "tensor<!quant.uniform<i8:f32:0,{1.0,2.0:3}>>" tensorKind 0 44
+    ∷ first "tensor<!quant.uniform<i8:f32,{1}>>" tensorKind 0 34
+    ∷ first "tensor<!quant.uniform<i8<0>:f32,2.0>>" wordKind 0 6
+    ∷ first "tensor<!quant.uniform<i8<0:10:f32,2.0>>" wordKind 0 6
+    ∷ first "tensor<!quant.uniform<i8:f32>>" wordKind 0 6
+    ∷ first "tensor<!quant.uniform<i8:f32,>>" wordKind 0 6
+    ∷ first "tensor<!quant.uniform<i8:f32,{}>>" wordKind 0 6
+    ∷ first "tensor<!quant.uniform<i8:f32,{1,}>>" wordKind 0 6
+    ∷ first "tensor<!quant.uniform<i8:f32,1,2>>" wordKind 0 6
+    ∷ first "tensor<!quant.uniform<i8:f32,e5>>" wordKind 0 6
+    ∷ first "tensor<!quant.uniform<i8:f32,1e>>" wordKind 0 6
+    ∷ first "tensor<!quant.uniform<i8:f32,.5>>" wordKind 0 6
+    ∷ first "tensor<!quant.uniform<i8:f32:x,1>>" wordKind 0 6
+    ∷ first "tensor<!quant.uniform<8:f32,1>>" wordKind 0 6
+    ∷ first "tensor<!quant.uniform<i8,1>>" wordKind 0 6
     -- "a single mark"
     ∷ first "(" 40 0 1
     ∷ first "}" 125 0 1

@@ -2,11 +2,11 @@
 -- Assumes nothing.
 use mathlib.Core.Path.{_≡_, refl}
 use lib.Count.{onesIn, leadingZeros}
-use Rattle.element.specs.Types.{valueOf, wrapTo}
+use Rattle.element.specs.Types.{valueOf, wrapTo, slotFor}
 use Rattle.division.specs.Division.{divisionOf}
 use Rattle.scalar.specs.Ops.{addOf, subtractOf, multiplyOf, negateOf, iotaOf, convertOf, absOf, signOf, ltOf, maximumOf, minimumOf, compareOf, notOf, countLeadingZerosOf, popcntOf, shiftLeftOf, shiftRightArithmeticOf, shiftRightLogicalOf, clampOf, selectOf}
 use Rattle.value_pins.specs.Scalars.{ScalarPinsHold}
 
 pub scalar-pins : ScalarPinsHold
-unfolding valueOf wrapTo divisionOf addOf subtractOf multiplyOf negateOf iotaOf convertOf absOf signOf ltOf maximumOf minimumOf compareOf notOf countLeadingZerosOf popcntOf shiftLeftOf shiftRightArithmeticOf shiftRightLogicalOf clampOf selectOf onesIn leadingZeros
+unfolding valueOf wrapTo slotFor divisionOf addOf subtractOf multiplyOf negateOf iotaOf convertOf absOf signOf ltOf maximumOf minimumOf compareOf notOf countLeadingZerosOf popcntOf shiftLeftOf shiftRightArithmeticOf shiftRightLogicalOf clampOf selectOf onesIn leadingZeros
 scalar-pins = refl

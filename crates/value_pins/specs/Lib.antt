@@ -1,4 +1,4 @@
-pub mod Pin
+pub mod ValuePin
 pub mod Types
 pub mod Scalars
 pub mod Shapes

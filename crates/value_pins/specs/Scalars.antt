@@ -18,35 +18,35 @@ use Rattle.scalar.specs.declared.Direction.{Direction}
 use Rattle.scalar.specs.declared.Direction.the-variants.{Eq, Ne, Ge, Gt, Le, Lt}
 use Rattle.scalar.specs.declared.Body.{Body}
 use Rattle.scalar.specs.declared.Body.the-variants as body
-use Rattle.value_pins.specs.Pin.{Pin, pin, neg, zipped, Pinned}
+use Rattle.value_pins.specs.ValuePin.{ValuePin, valuePin, neg, zipped, Pinned}
 
 -- an op of one operand on each slot
-abbrev unaryPin : Unary → ElementType → List ℕ → List ℕ → Pin
-unaryPin op t xs is = pin (map (unaryOf op t) xs) is
+abbrev unaryPin : Unary → ElementType → List ℕ → List ℕ → ValuePin
+unaryPin op t xs is = valuePin (map (unaryOf op t) xs) is
 
 -- an op of two operands on each pair of slots
-abbrev binaryPin : Binary → ElementType → List ℕ → List ℕ → List ℕ → Pin
-binaryPin op t xs ys is = pin (zipped (binaryOf op t) xs ys) is
+abbrev binaryPin : Binary → ElementType → List ℕ → List ℕ → List ℕ → ValuePin
+binaryPin op t xs ys is = valuePin (zipped (binaryOf op t) xs ys) is
 
 -- a comparison of each pair of slots
-abbrev comparePin : Direction → ElementType → List ℕ → List ℕ → List ℕ → Pin
-comparePin d t xs ys is = pin (zipped (compareOf d t) xs ys) is
+abbrev comparePin : Direction → ElementType → List ℕ → List ℕ → List ℕ → ValuePin
+comparePin d t xs ys is = valuePin (zipped (compareOf d t) xs ys) is
 
 -- the refusals, and the values, of a quotient or remainder of each pair of slots
-abbrev refusalPin : Division → ElementType → List ℕ → List ℕ → List ℕ → Pin
-refusalPin op t xs ys is = pin (zipped (λ a b. divisionOf op t a b .0) xs ys) is
+abbrev refusalPin : Division → ElementType → List ℕ → List ℕ → List ℕ → ValuePin
+refusalPin op t xs ys is = valuePin (zipped (λ a b. divisionOf op t a b .0) xs ys) is
 
-abbrev quotientPin : Division → ElementType → List ℕ → List ℕ → List ℕ → Pin
-quotientPin op t xs ys is = pin (zipped (λ a b. divisionOf op t a b .1) xs ys) is
+abbrev quotientPin : Division → ElementType → List ℕ → List ℕ → List ℕ → ValuePin
+quotientPin op t xs ys is = valuePin (zipped (λ a b. divisionOf op t a b .1) xs ys) is
 
 -- slots of one type converted to another
-abbrev convertPin : ElementType → ElementType → List ℕ → List ℕ → Pin
-convertPin from to xs is = pin (map (convertOf from to) xs) is
+abbrev convertPin : ElementType → ElementType → List ℕ → List ℕ → ValuePin
+convertPin from to xs is = valuePin (map (convertOf from to) xs) is
 
 abbrev everyBody : List Body
 everyBody = body.Add ∷ body.Multiply ∷ body.Maximum ∷ body.Minimum ∷ body.And ∷ body.Or ∷ body.Xor ∷ []
 
-abbrev pub scalarPins : List Pin
+abbrev pub scalarPins : List ValuePin
 scalarPins =
     -- "add, subtract, multiply, negate, iota, convert wrap"
     binaryPin binary.Add I8 (127 ∷ neg 128 ∷ 100 ∷ 2 ∷ []) (1 ∷ neg 1 ∷ neg 1 ∷ 3 ∷ []) (neg 128 ∷ 127 ∷ 99 ∷ 5 ∷ [])
@@ -63,9 +63,9 @@ scalarPins =
     ∷ unaryPin Negate U8 (0 ∷ 1 ∷ 255 ∷ []) (0 ∷ 255 ∷ 1 ∷ [])
     ∷ unaryPin Negate I64 (neg 9223372036854775808 ∷ 1 ∷ []) (neg 9223372036854775808 ∷ neg 1 ∷ [])
     ∷ unaryPin Negate U64 (1 ∷ []) (18446744073709551615 ∷ [])
-    ∷ pin (map (iotaOf I8) (127 ∷ 128 ∷ 200 ∷ [])) (127 ∷ neg 128 ∷ neg 56 ∷ [])
-    ∷ pin (map (iotaOf U8) (255 ∷ 256 ∷ [])) (255 ∷ 0 ∷ [])
-    ∷ pin (iotaOf U16 300 ∷ []) (300 ∷ [])
+    ∷ valuePin (map (iotaOf I8) (127 ∷ 128 ∷ 200 ∷ [])) (127 ∷ neg 128 ∷ neg 56 ∷ [])
+    ∷ valuePin (map (iotaOf U8) (255 ∷ 256 ∷ [])) (255 ∷ 0 ∷ [])
+    ∷ valuePin (iotaOf U16 300 ∷ []) (300 ∷ [])
     ∷ convertPin I32 U8 (300 ∷ []) (44 ∷ [])
     ∷ convertPin U8 I8 (200 ∷ 127 ∷ []) (neg 56 ∷ 127 ∷ [])
     ∷ convertPin I8 U8 (neg 1 ∷ neg 128 ∷ []) (255 ∷ 128 ∷ [])
@@ -101,7 +101,7 @@ scalarPins =
     ∷ refusalPin Divide I8 (5 ∷ 0 ∷ neg 128 ∷ 5 ∷ []) (0 ∷ 0 ∷ 0 ∷ 1 ∷ []) (12 ∷ 12 ∷ 12 ∷ 0 ∷ [])
     ∷ refusalPin Remainder I8 (5 ∷ 0 ∷ neg 128 ∷ 5 ∷ []) (0 ∷ 0 ∷ 0 ∷ 1 ∷ []) (12 ∷ 12 ∷ 12 ∷ 0 ∷ [])
     ∷ refusalPin Divide U64 (18446744073709551615 ∷ 0 ∷ []) (0 ∷ 1 ∷ []) (12 ∷ 0 ∷ [])
-    ∷ pin (numbersOf (Value 5) .0 ∷ numbersOf (Value 5) .1 ∷ numbersOf ByZero .0 ∷ numbersOf ByZero .1 ∷ []) (0 ∷ 5 ∷ 12 ∷ 0 ∷ [])
+    ∷ valuePin (numbersOf (Value 5) .0 ∷ numbersOf (Value 5) .1 ∷ numbersOf ByZero .0 ∷ numbersOf ByZero .1 ∷ []) (0 ∷ 5 ∷ 12 ∷ 0 ∷ [])
     -- "abs of the lowest value saturates to the highest"
     ∷ unaryPin Abs I8 (neg 128 ∷ neg 127 ∷ neg 1 ∷ 0 ∷ 1 ∷ 127 ∷ []) (127 ∷ 127 ∷ 1 ∷ 0 ∷ 1 ∷ 127 ∷ [])
     ∷ unaryPin Abs I64 (neg 9223372036854775808 ∷ neg 1 ∷ 1 ∷ []) (9223372036854775807 ∷ 1 ∷ 1 ∷ [])
@@ -177,18 +177,18 @@ scalarPins =
     ∷ binaryPin binary.ShiftRightLogical I64 (neg 9223372036854775808 ∷ neg 9223372036854775808 ∷ neg 9223372036854775808 ∷ neg 9223372036854775808 ∷ []) (neg 1 ∷ 1 ∷ 63 ∷ 64 ∷ []) (0 ∷ 4611686018427387904 ∷ 1 ∷ 0 ∷ [])
     ∷ binaryPin binary.ShiftRightLogical U64 (18446744073709551615 ∷ 18446744073709551615 ∷ 18446744073709551615 ∷ 18446744073709551615 ∷ []) (18446744073709551615 ∷ 1 ∷ 63 ∷ 64 ∷ []) (0 ∷ 9223372036854775807 ∷ 1 ∷ 0 ∷ [])
     -- "clamp is minimum(maximum(x, min), max), even if min exceeds max": min, x and max
-    ∷ pin (clampOf I8 5 3 10 ∷ clampOf I8 5 7 10 ∷ clampOf I8 5 12 10 ∷ clampOf I8 5 4 3 ∷ clampOf I8 (neg 5) (neg 128) 5 ∷ clampOf I8 (neg 5) 127 5 ∷ []) (5 ∷ 7 ∷ 10 ∷ 3 ∷ neg 5 ∷ 5 ∷ [])
-    ∷ pin (clampOf U8 10 251 200 ∷ clampOf U8 10 5 200 ∷ clampOf U64 1 (neg 1) 7 ∷ clampOf I1 0 1 0 ∷ []) (200 ∷ 10 ∷ 7 ∷ 0 ∷ [])
+    ∷ valuePin (clampOf I8 5 3 10 ∷ clampOf I8 5 7 10 ∷ clampOf I8 5 12 10 ∷ clampOf I8 5 4 3 ∷ clampOf I8 (neg 5) (neg 128) 5 ∷ clampOf I8 (neg 5) 127 5 ∷ []) (5 ∷ 7 ∷ 10 ∷ 3 ∷ neg 5 ∷ 5 ∷ [])
+    ∷ valuePin (clampOf U8 10 251 200 ∷ clampOf U8 10 5 200 ∷ clampOf U64 1 (neg 1) 7 ∷ clampOf I1 0 1 0 ∷ []) (200 ∷ 10 ∷ 7 ∷ 0 ∷ [])
     -- select: on_true where pred is true
-    ∷ pin (selectOf 1 7 8 ∷ selectOf 0 7 8 ∷ []) (7 ∷ 8 ∷ [])
+    ∷ valuePin (selectOf 1 7 8 ∷ selectOf 0 7 8 ∷ []) (7 ∷ 8 ∷ [])
     -- "one op of add, multiply, maximum, minimum, and, or, xor", on 6 and 3
-    ∷ pin (map (λ b. bodyOf b I8 6 3) everyBody) (9 ∷ 18 ∷ 6 ∷ 3 ∷ 2 ∷ 7 ∷ 5 ∷ [])
+    ∷ valuePin (map (λ b. bodyOf b I8 6 3) everyBody) (9 ∷ 18 ∷ 6 ∷ 3 ∷ 2 ∷ 7 ∷ 5 ∷ [])
     -- "Identities: 0 for add, or, xor; 1 for multiply; lowest for maximum; highest for minimum; all bits set for and; on `i1` by the logical meaning"
-    ∷ pin (map (λ b. identityOf b I8) everyBody) (0 ∷ 1 ∷ neg 128 ∷ 127 ∷ neg 1 ∷ 0 ∷ 0 ∷ [])
-    ∷ pin (map (λ b. identityOf b U8) everyBody) (0 ∷ 1 ∷ 0 ∷ 255 ∷ 255 ∷ 0 ∷ 0 ∷ [])
-    ∷ pin (map (λ b. identityOf b I1) everyBody) (0 ∷ 1 ∷ 0 ∷ 1 ∷ 1 ∷ 0 ∷ 0 ∷ [])
-    ∷ pin (map (λ b. identityOf b I64) everyBody) (0 ∷ 1 ∷ neg 9223372036854775808 ∷ 9223372036854775807 ∷ neg 1 ∷ 0 ∷ 0 ∷ [])
-    ∷ pin (map (λ b. identityOf b U64) everyBody) (0 ∷ 1 ∷ 0 ∷ 18446744073709551615 ∷ 18446744073709551615 ∷ 0 ∷ 0 ∷ [])
+    ∷ valuePin (map (λ b. identityOf b I8) everyBody) (0 ∷ 1 ∷ neg 128 ∷ 127 ∷ neg 1 ∷ 0 ∷ 0 ∷ [])
+    ∷ valuePin (map (λ b. identityOf b U8) everyBody) (0 ∷ 1 ∷ 0 ∷ 255 ∷ 255 ∷ 0 ∷ 0 ∷ [])
+    ∷ valuePin (map (λ b. identityOf b I1) everyBody) (0 ∷ 1 ∷ 0 ∷ 1 ∷ 1 ∷ 0 ∷ 0 ∷ [])
+    ∷ valuePin (map (λ b. identityOf b I64) everyBody) (0 ∷ 1 ∷ neg 9223372036854775808 ∷ 9223372036854775807 ∷ neg 1 ∷ 0 ∷ 0 ∷ [])
+    ∷ valuePin (map (λ b. identityOf b U64) everyBody) (0 ∷ 1 ∷ 0 ∷ 18446744073709551615 ∷ 18446744073709551615 ∷ 0 ∷ 0 ∷ [])
     ∷ []
 
 abbrev pub ScalarPinsHold : Type 0

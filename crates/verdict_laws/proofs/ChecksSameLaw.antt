@@ -10,7 +10,7 @@ use lib.Dec.{eqb, ltb}
 use lib.IntN.{ℤ, pos}
 use lib.ListN.{length, getD, drop, length-map}
 use borrow.Author.Tests.{lt-ltb, ltb-true, ltb-false}
-use Rattle.lists.specs.Lists.{pick, tab, All}
+use Rattle.lists.specs.Lists.{pick, tab, firstWhere}
 use Rattle.lists.proofs.TestLaw.{both-true}
 use Rattle.lists.proofs.TabLaw.{getD-tab, tab-getD, tab-cong}
 use Rattle.text.specs.Names.{sameBytes}
@@ -75,7 +75,7 @@ each-at t (o ∷ os) e zero h = both-true (t o) (each t os) e .0
 each-at t (o ∷ os) e (suc i) h = each-at t os (both-true (t o) (each t os) e .1) i (le-of-suc-le-suc h)
 
 all-required : each (λ o. sameBytes (o .required) (requiredBy (o .rule))) ops ≡ true
-unfolding each ops sameBytes attributes attributeNames placeIn same
+unfolding each ops sameBytes attributes attributeNames placeIn same firstWhere
 all-required = refl
 
 pub required-is : (i : ℕ) → i < length ops → getD ops i noOp .required ≡ requiredBy (getD ops i noOp .rule)
@@ -156,7 +156,7 @@ module _ (text : List ℕ) (op : Parts) (o : OpText) (same : SameParts op o) (r 
 
   pub types-all : typesFrom (q .types) 0 (q .arity) ≡ operandTypesOf text o
   unfolding operationOf
-  types-all = types-by 0 (arityOf op) (map (typeIn text) (o .operandTypes)) (arity-few) (λ j h. refl) (arity-long)
+  types-all = types-by 0 (arityOf op) (map (typeIn text) (o .operandTypes)) (arity-few) (λ j h. let z : j ≡ 0 + j = omega arith in ap (operandTypeOf text o) z) (arity-long)
     where
       arity-few : 0 + arityOf op ≤ 8
       arity-few = let a = arity-is text op o same in let f = same .operands .few in omega arith
@@ -216,7 +216,7 @@ module _ (text : List ℕ) (op : Parts) (o : OpText) (same : SameParts op o) (r 
   checks-same Concatenate e n s = rw (types-all, result-at, first-number (q .a), s .numbers (row .a), n, e) refl
   checks-same Constant e n s = rw (result-at, s .dense e) refl
   checks-same Convert e n s = rw (type-at 0 (omega arith), result-at) refl
-  checks-same DynamicSlice e n s = rw (type-at 0 (omega arith), types-rest, result-at, s .numbers (row .a), n, e) refl
+  checks-same DynamicSlice e n s = rw (types-rest, type-at 0 (omega arith), result-at, s .numbers (row .a), n, e) refl
   checks-same Iota e n s = rw (result-at, first-number (q .a), s .numbers (row .a), n, e) refl
   checks-same Pad e n s = rw (type-at 0 (omega arith), type-at 1 (omega arith), result-at, s .numbers (row .a), s .numbers (row .b), s .numbers (row .c), n, e) refl
   checks-same Reduce e n s = rw (type-at 0 (omega arith), type-at 1 (omega arith), result-at, s .argument e 0 (omega arith), s .argument e 1 (omega arith), s .numbers (row .a), n, e) refl

@@ -75,9 +75,7 @@ module _ (text : List ℕ) (read : textRefusal text .number ≡ 0) (k : ℕ) (h 
 
   -- its body
   pub one-body : length (o-k .bodies) ≡ 1 → SameBody text (placeOf (op text read k) bodyOpen 0) (getD (o-k .bodies) 0 [])
-  one-body one =
-      let e = op-read text read k h (opFrom []) in
-      subst (λ (t : OpText). length (t .bodies) ≡ 1 → SameBody text (placeOf (op text read k) bodyOpen 0) (getD (t .bodies) 0 [])) (sym e) (op-body text read k h) one
+  one-body one = op-body text read k h (opFrom []) one
 
   module _ (typed : typedOp text (op text read k) (rowOf text (op text read k)) (vs text read .list) (vs text read .inputs + k) ≡ true) where
     abbrev parts : TypedParts text (op text read k) (rowOf text (op text read k)) (vs text read .list) (vs text read .inputs + k)

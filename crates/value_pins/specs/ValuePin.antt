@@ -6,16 +6,16 @@ use mathlib.Core.List.{List, [], _∷_, map}
 use Prim.Native.Nat.{ℕ, _-_}
 use Rattle.lists.specs.Lists.{pick}
 
-pub record Pin : Type 0 where
+pub record ValuePin : Type 0 where
   pub found : List ℕ
   pub told : List ℕ
 
-abbrev pub pin : List ℕ → List ℕ → Pin
-pin found told = record { found = found; told = told }
+abbrev pub valuePin : List ℕ → List ℕ → ValuePin
+valuePin found told = record { found = found; told = told }
 
 -- of every example: what is found is what is told
-abbrev pub Pinned : List Pin → Type 0
-Pinned pins = map (λ (p : Pin). p .found) pins ≡ map (λ (p : Pin). p .told) pins
+abbrev pub Pinned : List ValuePin → Type 0
+Pinned pins = map (λ (p : ValuePin). p .found) pins ≡ map (λ (p : ValuePin). p .told) pins
 
 -- the slot of -k: "a signed one modulo 2^64"
 abbrev pub neg : ℕ → ℕ
