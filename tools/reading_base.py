@@ -1,18 +1,31 @@
 #!/usr/bin/env python3
 """The reading base: the definitions of crates/*/specs that the roots reach, with their lines by crate.
 
-    tools/reading_base.py [--list] [--names] [ROOT ..]
+    tools/reading_base.py [--list] [--by-law] [--names] [ROOT ..]
 
 A root is CRATE.Module.name; without roots, those of the bench's answer and of the claim of demand 3. A definition is its signature and its
-clauses; comments, blank lines and `use` lines are not counted. --list prints every definition reached, --names the names that are defined in more
+clauses; comments, blank lines and `use` lines are not counted. --list prints every definition reached, --by-law
+reads the statements of laws in place of the definitions that docs/READING.md reads so, --names the names that are defined in more
 than one module of specs/."""
 import re
 import sys
 from pathlib import Path
 
-ROOTS = ["evaluation.Evaluated.evaluated", "evaluation.Order.OrderFreeAnswer"]
-WORD = re.compile(r"[^\s(){};.,\"λ]+")
-HEAD = re.compile(r"^(?:\s*)(?:(?:abbrev|unfoldable|pub|opaque)\s+)*(?:(record|data)\s+)?([^\s:({]+)\s*(?=[:({])")
+ROOTS = ["answers.Answered.answerOf", "answers.FreeRuns.FreeOfOrder"]
+# Definitions that docs/READING.md reads by a law: the law's statement is read in their place, by these definitions of specs/.
+BY_LAW = {
+    # the roles of tokens are the leaves of the derivation: syntax proofs/Labelling, Theorems
+    "syntax.Readings.readingsOf": ["syntax.Roles.Labels", "grammar.Derivation.Begins", "grammar.Derivation.NoneBegins", "syntax.Readings.Reading"],
+    # a token is the longest of 01's forms: text proofs/LongestLaw
+    "text.Lex.lexeme": ["text.Forms.Longest"],
+    # which size a token passes, by the tokens before it: size_laws proofs/Theorems
+    "judge.Sizes.sizePassed": ["size_laws.SizeSentences.PassedAt", "size_laws.SizeSentences.LowestPassed"],
+    "judge.Tally.afterToken": [],
+    # two types are one where element types and dimensions are: rules proofs/FactLaw
+    "dimrules.Types.sameShape": ["rules.Facts.AlikeShapes"],
+    # an op's names as operands, body, result: names proofs/TextLaw
+    "names.Names.namesRead": ["names.InOrder.operandsBodyResult"],
+}
 
 
 def crates_dir():
@@ -120,7 +133,7 @@ def resolve(modules, module, word):
     return None
 
 
-def reach(modules, roots):
+def reach(modules, roots, by_law):
     todo, found = [], {}
     for root in roots:
         crate, mod, name = root.split(".")
@@ -130,6 +143,14 @@ def reach(modules, roots):
         d = todo.pop()
         key = (d.module, d.name)
         if key in found:
+            continue
+        instead = BY_LAW.get(f"{d.module}.{d.name}") if by_law else None
+        if instead is not None:
+            for root in instead:
+                crate, mod, name = root.split(".")
+                other = modules[f"{crate}.{mod}"][1][name]
+                if (other.module, other.name) != key:
+                    todo.append(other)
             continue
         found[key] = d
         for line in d.text:
@@ -157,7 +178,7 @@ def main():
         print(f"{len(twice)} names")
         return
     roots = [w for w in words if not w.startswith("--")] or ROOTS
-    found = reach(modules, roots)
+    found = reach(modules, roots, "--by-law" in words)
     by_crate = {}
     for (module, name), d in found.items():
         by_crate.setdefault(module.split(".")[0], []).append(d)

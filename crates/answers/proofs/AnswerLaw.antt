@@ -20,7 +20,7 @@ use Rattle.elementwise.specs.Elementwise.{Tensor}
 use Rattle.dimrules.specs.Count.{firstFailing, everywhere}
 use Rattle.dimrules.proofs.CountLaw.{holds-at}
 use Rattle.inputs.proofs.InputsLaw.{input-at}
-use Rattle.run.specs.Run.{Program, Answer, End, ended, resultsOf}
+use Rattle.run.specs.Run.{RunProgram, Answer, RunEnd, ended, resultsOf}
 use Rattle.run.specs.Tree.{Tree}
 use Rattle.run.specs.Ways.{OrderOf, TreesAllowed, freeRun, evaluation}
 use Rattle.ops.specs.Ops.{Node, hlo}
@@ -109,13 +109,13 @@ module _ (text : List ℕ) (accepted : verdict text .number ≡ 0) where
       let here = from-here text read k (suc (suc left)) x (y ∷ rest) w in
       let next = from-next text read k (suc left) x (y ∷ rest) w in
       let head : nodeAt text (programOf text) (vs text read) (k + 0) ≡ nodeWritten text known x =
-          (let z : k + 0 ≡ k = omega arith in ap (λ (m : ℕ). nodeAt text (programOf text) (vs text read) m) z) ∙ node-at k (omega arith) known before ∙ ap (nodeWritten text known) (sym here) in
+      (let z : k + 0 ≡ k = omega arith in ap (λ (m : ℕ). nodeAt text (programOf text) (vs text read) m) z) ∙ node-at k (omega arith) known before ∙ ap (nodeWritten text known) (sym here) in
       let later : tab left (λ j. nodeAt text (programOf text) (vs text read) (suc k + j)) ≡ nodesWritten text (known ++ (resultDefined text (o text read k) ∷ [])) (y ∷ rest) =
-          nodes-from left (suc k) (omega arith) (known ++ (resultDefined text (o text read k) ∷ [])) (known-next text read k (omega arith) known before) (y ∷ rest) next in
+      nodes-from left (suc k) (omega arith) (known ++ (resultDefined text (o text read k) ∷ [])) (known-next text read k (omega arith) known before) (y ∷ rest) next in
       let tail : tab left (λ j. nodeAt text (programOf text) (vs text read) (k + suc j)) ≡ nodesWritten text (known ++ (resultDefined text x ∷ [])) (y ∷ rest) =
-          tab-cong left (λ j. nodeAt text (programOf text) (vs text read) (k + suc j)) (λ j. nodeAt text (programOf text) (vs text read) (suc k + j))
-          (λ j q. let z : k + suc j ≡ suc k + j = omega arith in ap (λ (m : ℕ). nodeAt text (programOf text) (vs text read) m) z)
-          ∙ later ∙ ap (λ (t : OpText). nodesWritten text (known ++ (resultDefined text t ∷ [])) (y ∷ rest)) (sym here) in
+      tab-cong left (λ j. nodeAt text (programOf text) (vs text read) (k + suc j)) (λ j. nodeAt text (programOf text) (vs text read) (suc k + j))
+      (λ j q. let z : k + suc j ≡ suc k + j = omega arith in ap (λ (m : ℕ). nodeAt text (programOf text) (vs text read) m) z)
+      ∙ later ∙ ap (λ (t : OpText). nodesWritten text (known ++ (resultDefined text t ∷ [])) (y ∷ rest)) (sym here) in
       rw (head, tail) refl
 
   -- the values after all ops, and what the return names
@@ -131,10 +131,11 @@ module _ (text : List ℕ) (accepted : verdict text .number ≡ 0) where
   after-known (suc left) k e known before (x ∷ (y ∷ rest)) w =
       let here = from-here text read k (suc (suc left)) x (y ∷ rest) w in
       let z : suc k + left ≡ k + suc left = omega arith in
-      let later = after-known left (suc k) (omega arith) (known ++ (resultDefined text (o text read k) ∷ [])) (known-next text read k (omega arith) known before) (y ∷ rest) (from-next text read k (suc left) x (y ∷ rest) w) in
-      (subst (λ (t : OpText). KnownBefore (vs text read .list) (vs text read .inputs + (k + suc left)) (definedAfter text (known ++ (resultDefined text t ∷ [])) (y ∷ rest))) (sym here)
-      (subst (λ (m : ℕ). KnownBefore (vs text read .list) (vs text read .inputs + m) (definedAfter text (known ++ (resultDefined text (o text read k) ∷ [])) (y ∷ rest))) z (later .0)),
-      later .1 ∙ ap (λ (m : ℕ). o text read m .operands) z)
+      let later = after-known left (suc k) (omega arith) (known ++ (resultDefined text (o text read k) ∷ [])) (known-next text read k (omega arith) known before) (y ∷ rest) (from-next text read k (suc left) x (y ∷ rest) w) in (
+        subst (λ (t : OpText). KnownBefore (vs text read .list) (vs text read .inputs + (k + suc left)) (definedAfter text (known ++ (resultDefined text t ∷ [])) (y ∷ rest))) (sym here)
+            (subst (λ (m : ℕ). KnownBefore (vs text read .list) (vs text read .inputs + m) (definedAfter text (known ++ (resultDefined text (o text read k) ∷ [])) (y ∷ rest))) z (later .0)),
+        later .1 ∙ ap (λ (m : ℕ). o text read m .operands) z,
+      )
 
   whole : From text read 0 (suc (opsOf (programOf text))) (functionOf text .ops)
   whole = let c = count in let n = ops-count text read in record { count = omega arith; item = λ j. let z : j ≡ 0 + j = omega arith in ap (o text read) z }
@@ -167,12 +168,12 @@ module _ (text : List ℕ) (accepted : verdict text .number ≡ 0) where
       let n : vs text read .inputs ≡ length (functionOf text .inputs) = values .inputs ∙ with-length text (functionOf text .inputs) (functionOf text .inputTypes) (s .even) in
       let c = count in
       let ops : tab (opsOf (programOf text)) (nodeAt text (programOf text) (vs text read)) ≡ nodesWritten text (inputsDefined text (functionOf text)) (functionOf text .ops) =
-          tab-cong (opsOf (programOf text)) (nodeAt text (programOf text) (vs text read)) (λ j. nodeAt text (programOf text) (vs text read) (0 + j)) (λ j q. let z : j ≡ 0 + j = omega arith in ap (λ (m : ℕ). nodeAt text (programOf text) (vs text read) m) z)
-          ∙ nodes-from (opsOf (programOf text)) 0 (omega arith) (inputsDefined text (functionOf text)) (known-first text read) (functionOf text .ops) whole in
+      tab-cong (opsOf (programOf text)) (nodeAt text (programOf text) (vs text read)) (λ j. nodeAt text (programOf text) (vs text read) (0 + j)) (λ j q. let z : j ≡ 0 + j = omega arith in ap (λ (m : ℕ). nodeAt text (programOf text) (vs text read) m) z)
+      ∙ nodes-from (opsOf (programOf text)) 0 (omega arith) (inputsDefined text (functionOf text)) (known-first text read) (functionOf text .ops) whole in
       let returns = operands-at text read (opsOf (programOf text)) (omega arith) (valuesWritten text) (ended-known .0) ∙ ap (map (valueOfName text (valuesWritten text))) (sym (ended-known .1)) in
       three n ops returns
     where
-      three : {a b : ℕ} {x y : List Node} {r s : List ℕ} → a ≡ b → x ≡ y → r ≡ s → _≡_ {A = Program Node} (record { inputs = a; ops = x; returns = r }) (record { inputs = b; ops = y; returns = s })
+      three : {a b : ℕ} {x y : List Node} {r s : List ℕ} → a ≡ b → x ≡ y → r ≡ s → _≡_ {A = RunProgram Node} (record { inputs = a; ops = x; returns = r }) (record { inputs = b; ops = y; returns = s })
       three e1 e2 e3 = rw (e1, e2, e3) refl
 
   -- ---- slots
@@ -220,7 +221,7 @@ module _ (text : List ℕ) (accepted : verdict text .number ≡ 0) where
 
   evaluation-same : (inputs : List ℕ) → evaluationOf text inputs ≡ evaluationWritten text inputs
   unfolding evaluationOf evaluationWritten
-  evaluation-same inputs = ap (λ (q : Program Node). evaluation hlo q (tensorsOf text inputs) 0) program-same ∙ ap (λ (x : List Tensor). evaluation hlo (programWritten text) x 0) (sym (tensors-given inputs))
+  evaluation-same inputs = ap (λ (q : RunProgram Node). evaluation hlo q (tensorsOf text inputs) 0) program-same ∙ ap (λ (x : List Tensor). evaluation hlo (programWritten text) x 0) (sym (tensors-given inputs))
 
   accepted-same : (inputs old : List ℕ) → fitted text inputs old ≡ answerAccepted text inputs old
   unfolding fitted answerAccepted ran valuesOf
@@ -242,13 +243,13 @@ module _ (text : List ℕ) (accepted : verdict text .number ≡ 0) where
   claim-same : (inputs : List ℕ) (number : ℕ) (store : List ℕ) → OrderFreeAnswer text inputs number store → FreeOfOrder text inputs number store
   unfolding OrderFreeAnswer FreeOfOrder valuesOf nodesOf nodesIn
   claim-same inputs number store claim v starts order ordered trees allowed =
-      let c = claim accepted (subst StartsAtIdentity (sym program-same) starts) order (subst (λ (q : Program Node). OrderOf hlo q order) (sym program-same) ordered) trees (subst (λ (q : Program Node). TreesAllowed hlo q trees) (sym program-same) allowed) in
+      let c = claim accepted (subst StartsAtIdentity (sym program-same) starts) order (subst (λ (q : RunProgram Node). OrderOf hlo q order) (sym program-same) ordered) trees (subst (λ (q : RunProgram Node). TreesAllowed hlo q trees) (sym program-same) allowed) in
       let run : freeRun hlo (nodesOf text) (tensorsOf text inputs) order trees 0 ≡ freeRun hlo (programWritten text) (tensorsFrom (inputsWritten text) inputs) order trees 0 =
-          ap (λ (q : Program Node). freeRun hlo q (tensorsOf text inputs) order trees 0) program-same ∙ ap (λ (x : List Tensor). freeRun hlo (programWritten text) x order trees 0) (sym (tensors-given inputs)) in
-      subst (λ (e : End Tensor ℕ). AnswerStands text number store e) run
+      ap (λ (q : RunProgram Node). freeRun hlo q (tensorsOf text inputs) order trees 0) program-same ∙ ap (λ (x : List Tensor). freeRun hlo (programWritten text) x order trees 0) (sym (tensors-given inputs)) in
+      subst (λ (e : RunEnd Tensor ℕ). AnswerStands text number store e) run
       (record {
         values = λ z. c .values z ∙ ap (λ (l : List Tensor). ended (map some l)) (sym (tensors-stand store));
-        returned = λ z. ap (λ (q : Program Node). resultsOf (q .returns) (freeRun hlo (nodesOf text) (tensorsOf text inputs) order trees 0)) (sym program-same) ∙ c .returned z ∙ ap some (returned-same store);
+        returned = λ z. ap (λ (q : RunProgram Node). resultsOf (q .returns) (freeRun hlo (nodesOf text) (tensorsOf text inputs) order trees 0)) (sym program-same) ∙ c .returned z ∙ ap some (returned-same store);
         zero-divisor = c .zero-divisor;
       })
     where
@@ -261,7 +262,7 @@ module _ (text : List ℕ) (accepted : verdict text .number ≡ 0) where
           let n = ops-count text read in
           let l = length-tab (opsOf (programOf text)) (nodeAt text (programOf text) (vs text read)) in
           let z : vs text read .inputs + length (tab (opsOf (programOf text)) (nodeAt text (programOf text) (vs text read))) ≡ vs text read .count = omega arith in
-          subst (λ (q : Program Node). All (λ i. i < vs text read .count) (q .returns)) program-same (all-map (λ i b. rw z at b) (nodesOf text .returns) a)
+          subst (λ (q : RunProgram Node). All (λ i. i < vs text read .count) (q .returns)) program-same (all-map (λ i b. rw z at b) (nodesOf text .returns) a)
 
       returned-at : (store : List ℕ) (is : List ℕ) → All (λ i. i < valuesOf text .count) is → map (valueIn (valuesOf text) store) is ≡ map (λ i. getD (tensorsFrom (valuesWritten text) store) i []) is
       returned-at store [] a = refl
@@ -270,7 +271,7 @@ module _ (text : List ℕ) (accepted : verdict text .number ≡ 0) where
           rw (z, returned-at store is (a .1)) refl
 
       returned-same : (store : List ℕ) → map (valueIn (valuesOf text) store) (nodesOf text .returns) ≡ map (λ i. getD (tensorsFrom (valuesWritten text) store) i []) (programWritten text .returns)
-      returned-same store = ap (λ (q : Program Node). map (valueIn (valuesOf text) store) (q .returns)) program-same ∙ returned-at store (programWritten text .returns) returned-within
+      returned-same store = ap (λ (q : RunProgram Node). map (valueIn (valuesOf text) store) (q .returns)) program-same ∙ returned-at store (programWritten text .returns) returned-within
 
 -- the bench, for every text, input slice and store
 pub answer-same : (text inputs old : List ℕ) → evaluated text inputs old ≡ answerOf text inputs old

@@ -29,8 +29,8 @@ use Rattle.ops.specs.OpAttributes.{OpAttributes, attributesBy}
 use Rattle.ops.specs.Ops.{Node, TensorType as NodeType}
 use Rattle.optable.specs.declared.Class.{Class}
 use Rattle.optable.specs.declared.Class.the-variants as class
-use Rattle.optable.specs.Table.{Op as OpRow, ops, rowOf as rowFor, value, iotaDimension, broadcastDimensions, permutation, startIndices, strides, dimension, edgePaddingLow, interiorPadding, dimensions, attributes, attributeNames, noAttribute}
-use Rattle.optable.specs.Names.{same, placeIn}
+use Rattle.optable.specs.Table.{OpRow, ops, rowOf as rowFor, value, iotaDimension, broadcastDimensions, permutation, startIndices, strides, dimension, edgePaddingLow, interiorPadding, dimensions, attributes, attributeNames, noAttribute}
+use Rattle.optable.specs.Names.{same, namePlace}
 use Rattle.facts.specs.Facts.{kindBy, nodeType, integersOf}
 use Rattle.source.specs.Source.{OpText}
 use Rattle.verifier.specs.AttributeRules.{numbersNamed}
@@ -111,7 +111,7 @@ each-at t (o ∷ os) e zero h = both-true (t o) (each t os) e .0
 each-at t (o ∷ os) e (suc i) h = each-at t os (both-true (t o) (each t os) e .1) i (le-of-suc-le-suc h)
 
 all-rows : each rightRow ops ≡ true
-unfolding each rightRow noOther placed implied ops attributes attributeNames placeIn same firstWhere
+unfolding each rightRow noOther placed implied ops attributes attributeNames namePlace same firstWhere
 all-rows = refl
 
 pub row-right : (i : ℕ) → i < length ops → rightRow (getD ops i noOp) ≡ true
@@ -157,48 +157,48 @@ module _ (N : ℕ → List ℤ) (allowed : List ℕ) (absent : (n : ℕ) → amo
   second k e = ap N (eqb-true (getD allowed 2 noAttribute) k e)
 
   of-none : noOther allowed (readBy class.Clamp) readNames ≡ true → placed allowed (readBy class.Clamp) ≡ true → byLists [] [] [] [] [] [] [] [] [] ≡ byName N
-  unfolding placed attributes attributeNames placeIn same firstWhere
-  of-none right at = 
+  unfolding placed attributes attributeNames namePlace same firstWhere
+  of-none right at =
       nine (none (readBy class.Clamp) right 0 (omega arith) refl) (none (readBy class.Clamp) right 1 (omega arith) refl) (none (readBy class.Clamp) right 2 (omega arith) refl) (none (readBy class.Clamp) right 3 (omega arith) refl) (none (readBy class.Clamp) right 4 (omega arith) refl) (none (readBy class.Clamp) right 5 (omega arith) refl) (none (readBy class.Clamp) right 6 (omega arith) refl) (none (readBy class.Clamp) right 7 (omega arith) refl) (none (readBy class.Clamp) right 8 (omega arith) refl)
 
   of-iota : noOther allowed (readBy class.Iota) readNames ≡ true → placed allowed (readBy class.Iota) ≡ true → attributesBy Iota A C ≡ byName N
-  unfolding placed attributes attributeNames placeIn same firstWhere
-  of-iota right at = 
+  unfolding placed attributes attributeNames namePlace same firstWhere
+  of-iota right at =
       nine (first iotaDimension at) (none (readBy class.Iota) right 1 (omega arith) refl) (none (readBy class.Iota) right 2 (omega arith) refl) (none (readBy class.Iota) right 3 (omega arith) refl) (none (readBy class.Iota) right 4 (omega arith) refl) (none (readBy class.Iota) right 5 (omega arith) refl) (none (readBy class.Iota) right 6 (omega arith) refl) (none (readBy class.Iota) right 7 (omega arith) refl) (none (readBy class.Iota) right 8 (omega arith) refl)
 
   of-concatenate : noOther allowed (readBy class.Concatenate) readNames ≡ true → placed allowed (readBy class.Concatenate) ≡ true → attributesBy Concatenate A C ≡ byName N
-  unfolding placed attributes attributeNames placeIn same firstWhere
-  of-concatenate right at = 
+  unfolding placed attributes attributeNames namePlace same firstWhere
+  of-concatenate right at =
       nine (none (readBy class.Concatenate) right 0 (omega arith) refl) (first dimension at) (none (readBy class.Concatenate) right 2 (omega arith) refl) (none (readBy class.Concatenate) right 3 (omega arith) refl) (none (readBy class.Concatenate) right 4 (omega arith) refl) (none (readBy class.Concatenate) right 5 (omega arith) refl) (none (readBy class.Concatenate) right 6 (omega arith) refl) (none (readBy class.Concatenate) right 7 (omega arith) refl) (none (readBy class.Concatenate) right 8 (omega arith) refl)
 
   of-broadcast : noOther allowed (readBy (class.Moved move.BroadcastInDim)) readNames ≡ true → placed allowed (readBy (class.Moved move.BroadcastInDim)) ≡ true → attributesBy (Moved move.BroadcastInDim) A C ≡ byName N
-  unfolding placed attributes attributeNames placeIn same firstWhere
-  of-broadcast right at = 
+  unfolding placed attributes attributeNames namePlace same firstWhere
+  of-broadcast right at =
       nine (none (readBy (class.Moved move.BroadcastInDim)) right 0 (omega arith) refl) (none (readBy (class.Moved move.BroadcastInDim)) right 1 (omega arith) refl) (first broadcastDimensions at) (none (readBy (class.Moved move.BroadcastInDim)) right 3 (omega arith) refl) (none (readBy (class.Moved move.BroadcastInDim)) right 4 (omega arith) refl) (none (readBy (class.Moved move.BroadcastInDim)) right 5 (omega arith) refl) (none (readBy (class.Moved move.BroadcastInDim)) right 6 (omega arith) refl) (none (readBy (class.Moved move.BroadcastInDim)) right 7 (omega arith) refl) (none (readBy (class.Moved move.BroadcastInDim)) right 8 (omega arith) refl)
 
   of-transpose : noOther allowed (readBy (class.Moved move.Transpose)) readNames ≡ true → placed allowed (readBy (class.Moved move.Transpose)) ≡ true → attributesBy (Moved move.Transpose) A C ≡ byName N
-  unfolding placed attributes attributeNames placeIn same firstWhere
-  of-transpose right at = 
+  unfolding placed attributes attributeNames namePlace same firstWhere
+  of-transpose right at =
       nine (none (readBy (class.Moved move.Transpose)) right 0 (omega arith) refl) (none (readBy (class.Moved move.Transpose)) right 1 (omega arith) refl) (none (readBy (class.Moved move.Transpose)) right 2 (omega arith) refl) (first permutation at) (none (readBy (class.Moved move.Transpose)) right 4 (omega arith) refl) (none (readBy (class.Moved move.Transpose)) right 5 (omega arith) refl) (none (readBy (class.Moved move.Transpose)) right 6 (omega arith) refl) (none (readBy (class.Moved move.Transpose)) right 7 (omega arith) refl) (none (readBy (class.Moved move.Transpose)) right 8 (omega arith) refl)
 
   of-slice : noOther allowed (readBy (class.Moved move.Slice)) readNames ≡ true → placed allowed (readBy (class.Moved move.Slice)) ≡ true → attributesBy (Moved move.Slice) A C ≡ byName N
-  unfolding placed attributes attributeNames placeIn same firstWhere
-  of-slice right at = let both = both-true (eqb (getD allowed 0 noAttribute) startIndices) (eqb (getD allowed 2 noAttribute) strides) at in 
+  unfolding placed attributes attributeNames namePlace same firstWhere
+  of-slice right at = let both = both-true (eqb (getD allowed 0 noAttribute) startIndices) (eqb (getD allowed 2 noAttribute) strides) at in
       nine (none (readBy (class.Moved move.Slice)) right 0 (omega arith) refl) (none (readBy (class.Moved move.Slice)) right 1 (omega arith) refl) (none (readBy (class.Moved move.Slice)) right 2 (omega arith) refl) (none (readBy (class.Moved move.Slice)) right 3 (omega arith) refl) (first startIndices (both .0)) (second strides (both .1)) (none (readBy (class.Moved move.Slice)) right 6 (omega arith) refl) (none (readBy (class.Moved move.Slice)) right 7 (omega arith) refl) (none (readBy (class.Moved move.Slice)) right 8 (omega arith) refl)
 
   of-pad : noOther allowed (readBy class.Pad) readNames ≡ true → placed allowed (readBy class.Pad) ≡ true → attributesBy Pad A C ≡ byName N
-  unfolding placed attributes attributeNames placeIn same firstWhere
-  of-pad right at = let both = both-true (eqb (getD allowed 0 noAttribute) edgePaddingLow) (eqb (getD allowed 2 noAttribute) interiorPadding) at in 
+  unfolding placed attributes attributeNames namePlace same firstWhere
+  of-pad right at = let both = both-true (eqb (getD allowed 0 noAttribute) edgePaddingLow) (eqb (getD allowed 2 noAttribute) interiorPadding) at in
       nine (none (readBy class.Pad) right 0 (omega arith) refl) (none (readBy class.Pad) right 1 (omega arith) refl) (none (readBy class.Pad) right 2 (omega arith) refl) (none (readBy class.Pad) right 3 (omega arith) refl) (none (readBy class.Pad) right 4 (omega arith) refl) (none (readBy class.Pad) right 5 (omega arith) refl) (first edgePaddingLow (both .0)) (second interiorPadding (both .1)) (none (readBy class.Pad) right 8 (omega arith) refl)
 
   of-reverse : noOther allowed (readBy (class.Moved move.Reverse)) readNames ≡ true → placed allowed (readBy (class.Moved move.Reverse)) ≡ true → attributesBy (Moved move.Reverse) A C ≡ byName N
-  unfolding placed attributes attributeNames placeIn same firstWhere
-  of-reverse right at = 
+  unfolding placed attributes attributeNames namePlace same firstWhere
+  of-reverse right at =
       nine (none (readBy (class.Moved move.Reverse)) right 0 (omega arith) refl) (none (readBy (class.Moved move.Reverse)) right 1 (omega arith) refl) (none (readBy (class.Moved move.Reverse)) right 2 (omega arith) refl) (none (readBy (class.Moved move.Reverse)) right 3 (omega arith) refl) (none (readBy (class.Moved move.Reverse)) right 4 (omega arith) refl) (none (readBy (class.Moved move.Reverse)) right 5 (omega arith) refl) (none (readBy (class.Moved move.Reverse)) right 6 (omega arith) refl) (none (readBy (class.Moved move.Reverse)) right 7 (omega arith) refl) (first dimensions at)
 
   of-reduce : (body : Body) → noOther allowed (readBy class.Reduce) readNames ≡ true → placed allowed (readBy class.Reduce) ≡ true → attributesBy (Reduce body) A C ≡ byName N
-  unfolding placed attributes attributeNames placeIn same firstWhere
-  of-reduce body right at = 
+  unfolding placed attributes attributeNames namePlace same firstWhere
+  of-reduce body right at =
       nine (none (readBy class.Reduce) right 0 (omega arith) refl) (none (readBy class.Reduce) right 1 (omega arith) refl) (none (readBy class.Reduce) right 2 (omega arith) refl) (none (readBy class.Reduce) right 3 (omega arith) refl) (none (readBy class.Reduce) right 4 (omega arith) refl) (none (readBy class.Reduce) right 5 (omega arith) refl) (none (readBy class.Reduce) right 6 (omega arith) refl) (none (readBy class.Reduce) right 7 (omega arith) refl) (first dimensions at)
 
   pub attributes-same : (c : Class) (d : Direction) (b : Body) → noOther allowed (readBy c) readNames ≡ true → placed allowed (readBy c) ≡ true → attributesBy (kindBy d b c) A C ≡ byName N

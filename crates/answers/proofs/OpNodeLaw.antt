@@ -27,22 +27,22 @@ use Rattle.ops.specs.Ops.{Node, TensorType as NodeType}
 use Rattle.optable.specs.declared.Row.{Row}
 use Rattle.optable.specs.declared.Class.{Class}
 use Rattle.optable.specs.declared.Class.the-variants as class
-use Rattle.optable.specs.Table.{Op as OpRow, ops, rowOf as rowFor, value, comparisonDirection, directionAt, noAttribute}
+use Rattle.optable.specs.Table.{OpRow, ops, rowOf as rowFor, value, comparisonDirection, directionAt, noAttribute}
 use Rattle.judge.specs.Judge.{textRefusal}
 use Rattle.program.specs.declared.Parts.{Parts}
 use Rattle.program.specs.Program.{programOf}
 use Rattle.places.specs.Places.{operandName, bodyOpen, countOf, placeOf}
 use Rattle.values.specs.declared.Value.{Value}
-use Rattle.attributes.specs.Attributes.{stands, attributesFit, numbersOf}
+use Rattle.attributes.specs.Attributes.{stands, attributesFit, attributeNumbers}
 use Rattle.bodies.specs.Bodies.{bodyRow}
 use Rattle.operands.specs.Operands.{valueNamed, arityOf}
 use Rattle.opcheck.specs.declared.Operation.{Operation}
-use Rattle.typing.specs.Typing.{rowOf, operationOf, typedOp, bodiesFit}
+use Rattle.typing.specs.Typing.{rowNamedIn, operationOf, typedOp, bodiesFit}
 use Rattle.facts.specs.Facts.{kindBy, nodeType, integersOf, nodeFor, ListRead, Shaped}
-use Rattle.nodes.specs.Nodes.{reducerAt, kindOf, elementsOf, operandsOf, nodeAt}
+use Rattle.nodes.specs.Nodes.{reducerAt, opKind, denseElements, operandsOf, nodeAt}
 use Rattle.nodes.proofs.TypedLaw.{TypedParts, typed-parts}
 use Rattle.source.specs.Source.{AttributeText, OpText, opFrom, bodyFrom}
-use Rattle.verifier.specs.AttributeRules.{attributeNumber, attributeWith, noAttributeText, numbersWritten, numbersNamed, choiceNamedBy, denseWritten, missingAttribute, doubledAttribute, foreignAttribute, otherKind, someOf}
+use Rattle.verifier.specs.AttributeRules.{attributeNumber, attributeWith, noAttributeText, numbersWritten, numbersNamed, choiceNamedBy, denseWritten, missingAttribute, doubledAttribute, foreignAttribute, unlikeKind, someOf}
 use Rattle.verifier.specs.BodyForm.{opNumber}
 use Rattle.verifier.specs.Reasons.{valueOfName, wrongAttribute, wrongDense}
 use Rattle.verifier.specs.ConstraintRules.{operandTypesOf, resultTypeOf}
@@ -110,8 +110,8 @@ node-from : {a b : Kind} {r s : NodeType} {f g : List NodeType} {x y : OpAttribu
 node-from e1 e2 e3 e4 e5 e6 = rw (e1, e2, e3, e4, e5, e6) refl
 
 module _ (text : List ℕ) (read : textRefusal text .number ≡ 0) (k : ℕ) (h : k + 1 < programOf text .count)
-    (typed : typedOp text (op text read k) (rowOf text (op text read k)) (vs text read .list) (vs text read .inputs + k) ≡ true)
-    (shaped : Shaped (operationOf text (op text read k) (rowOf text (op text read k))))
+    (typed : typedOp text (op text read k) (rowNamedIn text (op text read k)) (vs text read .list) (vs text read .inputs + k) ≡ true)
+    (shaped : Shaped (operationOf text (op text read k) (rowNamedIn text (op text read k))))
     (known : List Value) (before : KnownBefore (vs text read .list) (vs text read .inputs + k) known) where
   abbrev o-k : OpText
   o-k = o text read k
@@ -122,13 +122,13 @@ module _ (text : List ℕ) (read : textRefusal text .number ≡ 0) (k : ℕ) (h 
   abbrev r : OpRow
   r = rowWritten text o-k
 
-  abbrev parts : TypedParts text op-k (rowOf text op-k) (vs text read .list) (vs text read .inputs + k)
-  parts = typed-parts text op-k (rowOf text op-k) (vs text read .list) (vs text read .inputs + k) typed
+  abbrev parts : TypedParts text op-k (rowNamedIn text op-k) (vs text read .list) (vs text read .inputs + k)
+  parts = typed-parts text op-k (rowNamedIn text op-k) (vs text read .list) (vs text read .inputs + k) typed
 
   abbrev attributes-read : AttributesNamed text op-k (o-k .attributes)
   attributes-read = named text read k h typed
 
-  row-is : (place : ℕ) × (rowOf text op-k ≡ rowFor place r)
+  row-is : (place : ℕ) × (rowNamedIn text op-k ≡ rowFor place r)
   row-is = row-same text read k h
 
   abbrev allowed : List ℕ
@@ -140,7 +140,7 @@ module _ (text : List ℕ) (read : textRefusal text .number ≡ 0) (k : ℕ) (h 
   foreign-none : foreignAttribute text allowed (o-k .attributes) ≡ false
   foreign-none =
       let z = both-true (not (wrongAttribute text (r .required) (r .optional) o-k)) (not (wrongDense text o-k)) (sym (fit text read k h) ∙ parts .attributes) .0 in
-      no-foreign (missingAttribute text (r .required) (o-k .attributes)) (doubledAttribute text (o-k .attributes)) (foreignAttribute text allowed (o-k .attributes)) (someOf (otherKind text) (o-k .attributes)) z
+      no-foreign (missingAttribute text (r .required) (o-k .attributes)) (doubledAttribute text (o-k .attributes)) (foreignAttribute text allowed (o-k .attributes)) (someOf (unlikeKind text) (o-k .attributes)) z
 
   absent : (n : ℕ) → among allowed n ≡ false → N n ≡ []
   absent n f = ap (λ (a : AttributeText). numbersWritten text a) (none-with text allowed (o-k .attributes) foreign-none n f)
@@ -148,18 +148,18 @@ module _ (text : List ℕ) (read : textRefusal text .number ≡ 0) (k : ℕ) (h 
   long : length (o-k .operandTypes) ≡ length (o-k .operands)
   long = operands-long text op-k o-k (same text read k (omega arith)) (vs text read .list) (vs text read .inputs + k) (parts .operands)
 
-  kind-is : kindOf text op-k ≡ kindWritten text o-k
-  unfolding kindOf kindWritten
+  kind-is : opKind text op-k ≡ kindWritten text o-k
+  unfolding opKind kindWritten
   kind-is =
       rw (row-is .1)
       (kind-same (directionAt _) (directionAt _) (reducerAt _) (reducerAt _) (r .class)
       (λ e. ap directionAt (attributes-read .direction))
       (λ e. ap reducerAt (one-body text read k h (bodies-one text read k h typed (class-body (opNumber text o-k) (inside text read k h) e)) .row)))
 
-  result-is : nodeType (operationOf text op-k (rowOf text op-k) .result) ≡ nodeType (resultTypeOf text o-k)
+  result-is : nodeType (operationOf text op-k (rowNamedIn text op-k) .result) ≡ nodeType (resultTypeOf text o-k)
   result-is = rw (row-is .1) (ap nodeType (result-at text op-k o-k (same text read k (omega arith)) r (row-is .0) long))
 
-  from-is : tab (operationOf text op-k (rowOf text op-k) .arity) (λ j. nodeType (typeAt (operationOf text op-k (rowOf text op-k) .types) j)) ≡ map nodeType (operandTypesOf text o-k)
+  from-is : tab (operationOf text op-k (rowNamedIn text op-k) .arity) (λ j. nodeType (typeAt (operationOf text op-k (rowNamedIn text op-k) .types) j)) ≡ map nodeType (operandTypesOf text o-k)
   from-is =
       rw (row-is .1)
       (tab-cong (operationOf text op-k (rowFor (row-is .0) r) .arity) (λ j. nodeType (typeAt (operationOf text op-k (rowFor (row-is .0) r) .types) j)) (λ j. nodeType (typeAt (operationOf text op-k (rowFor (row-is .0) r) .types) (0 + j)))
@@ -167,22 +167,22 @@ module _ (text : List ℕ) (read : textRefusal text .number ≡ 0) (k : ℕ) (h 
       ∙ sym (map-tab nodeType (operationOf text op-k (rowFor (row-is .0) r) .arity) (λ j. typeAt (operationOf text op-k (rowFor (row-is .0) r) .types) (0 + j)))
       ∙ ap (map nodeType) (types-all text op-k o-k (same text read k (omega arith)) r (row-is .0) long))
 
-  numbers-are : (n : ℕ) → ListRead (numbersOf text op-k n) → integersOf (numbersOf text op-k n) ≡ N n
-  numbers-are n l = sym (wholes-are (numbersOf text op-k n) l) ∙ attributes-read .numbers n
+  numbers-are : (n : ℕ) → ListRead (attributeNumbers text op-k n) → integersOf (attributeNumbers text op-k n) ≡ N n
+  numbers-are n l = sym (wholes-are (attributeNumbers text op-k n) l) ∙ attributes-read .numbers n
 
-  attributes-are : attributesBy (kindOf text op-k) (integersOf (operationOf text op-k (rowOf text op-k) .a)) (integersOf (operationOf text op-k (rowOf text op-k) .c)) ≡ attributesWritten text o-k
-  unfolding attributesWritten operationOf rightRow kindOf
+  attributes-are : attributesBy (opKind text op-k) (integersOf (operationOf text op-k (rowNamedIn text op-k) .a)) (integersOf (operationOf text op-k (rowNamedIn text op-k) .c)) ≡ attributesWritten text o-k
+  unfolding attributesWritten operationOf rightRow opKind
   attributes-are =
       let right = both-true (noOther allowed (readBy (r .class)) readNames) (placed allowed (readBy (r .class))) (row-right (opNumber text o-k) (inside text read k h)) in
-      let a : integersOf (numbersOf text op-k (rowOf text op-k .a)) ≡ N (getD allowed 0 noAttribute) = numbers-are (rowOf text op-k .a) (shaped .a) ∙ ap (λ (w : Row). N (w .a)) (row-is .1) in
-      let c : integersOf (numbersOf text op-k (rowOf text op-k .c)) ≡ N (getD allowed 2 noAttribute) = numbers-are (rowOf text op-k .c) (shaped .c) ∙ ap (λ (w : Row). N (w .c)) (row-is .1) in
+      let a : integersOf (attributeNumbers text op-k (rowNamedIn text op-k .a)) ≡ N (getD allowed 0 noAttribute) = numbers-are (rowNamedIn text op-k .a) (shaped .a) ∙ ap (λ (w : Row). N (w .a)) (row-is .1) in
+      let c : integersOf (attributeNumbers text op-k (rowNamedIn text op-k .c)) ≡ N (getD allowed 2 noAttribute) = numbers-are (rowNamedIn text op-k .c) (shaped .c) ∙ ap (λ (w : Row). N (w .c)) (row-is .1) in
       rw (a, c, row-is .1) (attributes-same N allowed absent (r .class) _ _ (right .0) (right .1))
 
-  elements-are : elementsOf text op-k ≡ elementsWritten text o-k
-  unfolding elementsWritten elementsOf
+  elements-are : denseElements text op-k ≡ elementsWritten text o-k
+  unfolding elementsWritten denseElements
   elements-are = go (stands text op-k value) refl
     where
-      go : (b : Bool) → stands text op-k value ≡ b → elementsOf text op-k ≡ elementsWritten text o-k
+      go : (b : Bool) → stands text op-k value ≡ b → denseElements text op-k ≡ elementsWritten text o-k
       go true e = attributes-read .elements e ∙ sym (rw (attributes-read .dense e) refl)
       go false e = rw (e, attributes-read .absent e) refl
 

@@ -7,7 +7,7 @@ use mathlib.Core.Option.{Option, some}
 use lib.ListN.{getD}
 use Rattle.elementwise.specs.Elementwise.{Tensor}
 use Rattle.run.specs.Tree.{Tree}
-use Rattle.run.specs.Run.{End, ended, met, resultsOf}
+use Rattle.run.specs.Run.{RunEnd, ended, met, resultsOf}
 use Rattle.run.specs.Ways.{OrderOf, TreesAllowed, freeRun}
 use Rattle.ops.specs.Ops.{hlo}
 use Rattle.ops.specs.Typed.{StartsAtIdentity}
@@ -17,7 +17,7 @@ use Rattle.answers.specs.Answered.{tensorsFrom, inputsWritten}
 
 -- What is claimed of a free run's end by the bench's answer, the refusal's number and the store afterwards. Results: the run's table holds for every
 -- input and op the tensor that stands in the store, and its results are the store's. A zero divisor: the run meets one.
-pub record AnswerStands (text : List ℕ) (number : ℕ) (store : List ℕ) (e : End Tensor ℕ) : Type 0 where
+pub record AnswerStands (text : List ℕ) (number : ℕ) (store : List ℕ) (e : RunEnd Tensor ℕ) : Type 0 where
   pub values : number ≡ 0 → e ≡ ended (map some (tensorsFrom (valuesWritten text) store))
   pub returned : number ≡ 0 → resultsOf (programWritten text .returns) e ≡ some (map (λ i. getD (tensorsFrom (valuesWritten text) store) i []) (programWritten text .returns))
   pub zero-divisor : number ≡ 12 → (t : List (Option Tensor)) × (k : ℕ) × (element : ℕ) × (e ≡ met t k element)

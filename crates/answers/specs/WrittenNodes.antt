@@ -6,7 +6,7 @@ use lib.Dec.{ltb}
 use lib.ListN.{length, getD}
 use Rattle.lists.specs.Lists.{pick}
 use Rattle.elementwise.specs.Elementwise.{Tensor}
-use Rattle.run.specs.Run.{Program}
+use Rattle.run.specs.Run.{RunProgram}
 use Rattle.ops.specs.OpAttributes.{OpAttributes}
 use Rattle.ops.specs.Ops.{Node}
 use Rattle.ops.specs.declared.Kind.{Kind}
@@ -83,7 +83,7 @@ returnedNames (op ∷ (next ∷ later)) = returnedNames (next ∷ later)
 unfoldable pub valuesWritten : List ℕ → List Value
 valuesWritten text = let f = functionOf text in definedAfter text (inputsDefined text f) (f .ops)
 
-unfoldable pub programWritten : List ℕ → Program Node
+unfoldable pub programWritten : List ℕ → RunProgram Node
 programWritten text =
     let f = functionOf text in
     record {

@@ -33,7 +33,7 @@ use Rattle.ops.specs.OpAttributes.{natural, naturals}
 use Rattle.ops.specs.Ops.{moved}
 use Rattle.ops.proofs.NaturalLaw.{natural-number, naturals-numbers}
 use Rattle.apply.specs.declared.Task.{Task}
-use Rattle.apply.specs.Apply.{numbersIn, nodeOf, AreNatural, MoveReady, Ready, outcome}
+use Rattle.apply.specs.Apply.{numbersIn, nodeOf, AreNatural, MoveReady, TaskReady, taskOutcome}
 
 -- a shape has rank 0 where its list of dimensions is empty
 pub single-is : (r : ℕ) (l : List ℕ) → 0 < length l → eqb r 0 ≡ eqb (length (take r l)) 0
@@ -49,11 +49,11 @@ module _ (k : Task) (x : Tensor) where
   move-is {m} {m′} {new} e h = subst (λ (n : Move). new ≡ moved (nodeOf (Moved n) k) n x) (sym e) h
 
   module _ (y z : Tensor) where
-    pub kind-ready : (out : List ℕ) {a b : Kind} → a ≡ b → Ready k a x y z out → Ready k b x y z out
-    kind-ready out {a} {b} e h = subst (λ (n : Kind). Ready k n x y z out) e h
+    pub kind-ready : (out : List ℕ) {a b : Kind} → a ≡ b → TaskReady k a x y z out → TaskReady k b x y z out
+    kind-ready out {a} {b} e h = subst (λ (n : Kind). TaskReady k n x y z out) e h
 
-    pub kind-is : {a b : Kind} (starts : List ℕ) {new : List ℕ} → a ≡ b → outcome k b starts x y z ≡ gives new → outcome k a starts x y z ≡ gives new
-    kind-is {a} {b} starts {new} e h = subst (λ (n : Kind). outcome k n starts x y z ≡ gives new) (sym e) h
+    pub kind-is : {a b : Kind} (starts : List ℕ) {new : List ℕ} → a ≡ b → taskOutcome k b starts x y z ≡ gives new → taskOutcome k a starts x y z ≡ gives new
+    kind-is {a} {b} starts {new} e h = subst (λ (n : Kind). taskOutcome k n starts x y z ≡ gives new) (sym e) h
 
 -- the starts of dynamic_slice are read back from tensors of one element
 pub singles : (l : List ℕ) → map (λ s. getD s 0 0) (map (λ s. s ∷ []) l) ≡ l
@@ -82,50 +82,50 @@ module _ (k : Task) (starts : List ℕ) (x y z : Tensor) {new : List ℕ} where
   made : {v : Tensor} → new ≡ v → _≡_ {A = Out Tensor ℕ} (gives v) (gives new)
   made e = ap {B = Out Tensor ℕ} gives (sym e)
 
-  pub iota-is : k .count ≡ 1 → at (k .first) 0 < 2 ^ 63 → new ≡ counted (k .element) (at (k .first) 0) (dimsOf (k .to)) → outcome k Iota starts x y z ≡ gives new
+  pub iota-is : k .count ≡ 1 → at (k .first) 0 < 2 ^ 63 → new ≡ counted (k .element) (at (k .first) 0) (dimsOf (k .to)) → taskOutcome k Iota starts x y z ≡ gives new
   iota-is c h e = made (e ∙ ap (λ (d : ℕ). counted (k .element) d (dimsOf (k .to))) (sym (lone-number (k .count) (k .first) c h)))
 
   filled : {n : ℕ} (f : ℕ → ℕ) → n ≡ size (dimsOf (k .to)) → new ≡ tab n f → _≡_ {A = Out Tensor ℕ} (gives (tab (size (dimsOf (k .to))) f)) (gives new)
   filled f q e = made (e ∙ ap (λ (m : ℕ). tab m f) q)
 
   module _ {n : ℕ} (q : n ≡ size (dimsOf (k .to))) where
-    pub unary-is : (op : Unary) → new ≡ tab n (unaryAt op (k .element) x) → outcome k (Elementwise op) starts x y z ≡ gives new
+    pub unary-is : (op : Unary) → new ≡ tab n (unaryAt op (k .element) x) → taskOutcome k (Elementwise op) starts x y z ≡ gives new
     unary-is op e = filled (unaryAt op (k .element) x) q e
 
-    pub binary-is : (op : Binary) → new ≡ tab n (binaryAt op (k .element) x y) → outcome k (Pairwise op) starts x y z ≡ gives new
+    pub binary-is : (op : Binary) → new ≡ tab n (binaryAt op (k .element) x y) → taskOutcome k (Pairwise op) starts x y z ≡ gives new
     binary-is op e = filled (binaryAt op (k .element) x y) q e
 
-    pub compare-is : (d : Direction) → new ≡ tab n (compareAt d (k .source) x y) → outcome k (Compare d) starts x y z ≡ gives new
+    pub compare-is : (d : Direction) → new ≡ tab n (compareAt d (k .source) x y) → taskOutcome k (Compare d) starts x y z ≡ gives new
     compare-is d e = filled (compareAt d (k .source) x y) q e
 
-    pub convert-is : new ≡ tab n (convertAt (k .source) (k .element) x) → outcome k Convert starts x y z ≡ gives new
+    pub convert-is : new ≡ tab n (convertAt (k .source) (k .element) x) → taskOutcome k Convert starts x y z ≡ gives new
     convert-is e = filled (convertAt (k .source) (k .element) x) q e
 
-    pub select-is : (b : Bool) → b ≡ eqb (length (dimsOf (k .from))) 0 → new ≡ tab n (selectAt b x y z) → outcome k Select starts x y z ≡ gives new
+    pub select-is : (b : Bool) → b ≡ eqb (length (dimsOf (k .from))) 0 → new ≡ tab n (selectAt b x y z) → taskOutcome k Select starts x y z ≡ gives new
     select-is b p e = filled (selectAt (eqb (length (dimsOf (k .from))) 0) x y z) q (e ∙ ap (λ (c : Bool). tab n (selectAt c x y z)) p)
 
     pub clamp-is : (b c : Bool) → b ≡ eqb (length (dimsOf (k .from))) 0 → c ≡ eqb (length (dimsOf (k .last))) 0 → new ≡ tab n (clampAt (k .element) b c x y z)
-        → outcome k Clamp starts x y z ≡ gives new
+        → taskOutcome k Clamp starts x y z ≡ gives new
     clamp-is b c p r e =
         filled (clampAt (k .element) (eqb (length (dimsOf (k .from))) 0) (eqb (length (dimsOf (k .last))) 0) x y z) q
         (e ∙ ap (λ (d : Bool). tab n (clampAt (k .element) d c x y z)) p
         ∙ ap (λ (d : Bool). tab n (clampAt (k .element) (eqb (length (dimsOf (k .from))) 0) d x y z)) r)
 
-  pub moved-is : (m : Move) → new ≡ moved (nodeOf (Moved m) k) m x → outcome k (Moved m) starts x y z ≡ gives new
+  pub moved-is : (m : Move) → new ≡ moved (nodeOf (Moved m) k) m x → taskOutcome k (Moved m) starts x y z ≡ gives new
   moved-is m e = made e
 
   pub pad-is : (v : ℕ) → v ≡ getD y 0 0 → k .count ≡ k .from .rank → AreNatural (k .from .rank) (k .second)
-      → new ≡ padded (numbersIn (k .from .rank) (k .first)) (take (k .from .rank) (k .second)) (dimsOf (k .from)) (dimsOf (k .to)) x v → outcome k Pad starts x y z ≡ gives new
+      → new ≡ padded (numbersIn (k .from .rank) (k .first)) (take (k .from .rank) (k .second)) (dimsOf (k .from)) (dimsOf (k .to)) x v → taskOutcome k Pad starts x y z ≡ gives new
   pad-is v p c a e =
       made (e ∙ ap (λ (w : ℕ). padded (numbersIn (k .from .rank) (k .first)) (take (k .from .rank) (k .second)) (dimsOf (k .from)) (dimsOf (k .to)) x w) p
       ∙ ap (λ (w : ℕ). padded (numbersIn w (k .first)) (take (k .from .rank) (k .second)) (dimsOf (k .from)) (dimsOf (k .to)) x (getD y 0 0)) (sym c)
       ∙ by-patterns (λ l. padded (numbersIn (k .count) (k .first)) l (dimsOf (k .from)) (dimsOf (k .to)) x (getD y 0 0)) (k .from .rank) (k .second) a)
 
-  pub dynamic-is : new ≡ dynamicSliced (k .index) (take (k .from .rank) starts) (dimsOf (k .from)) (dimsOf (k .to)) x → outcome k DynamicSlice starts x y z ≡ gives new
+  pub dynamic-is : new ≡ dynamicSliced (k .index) (take (k .from .rank) starts) (dimsOf (k .from)) (dimsOf (k .to)) x → taskOutcome k DynamicSlice starts x y z ≡ gives new
   dynamic-is e = made (e ∙ ap (λ (l : List ℕ). dynamicSliced (k .index) l (dimsOf (k .from)) (dimsOf (k .to)) x) (sym (singles (take (k .from .rank) starts))))
 
   pub reduce-is : (body : Body) (v : ℕ) → v ≡ getD y 0 0 → AreNatural (k .count) (k .first)
-      → new ≡ reduced body (k .element) (take (k .count) (k .first)) (dimsOf (k .from)) (dimsOf (k .to)) v x → outcome k (Reduce body) starts x y z ≡ gives new
+      → new ≡ reduced body (k .element) (take (k .count) (k .first)) (dimsOf (k .from)) (dimsOf (k .to)) v x → taskOutcome k (Reduce body) starts x y z ≡ gives new
   reduce-is body v p a e =
       made (e ∙ ap (λ (w : ℕ). reduced body (k .element) (take (k .count) (k .first)) (dimsOf (k .from)) (dimsOf (k .to)) w x) p
       ∙ by-patterns (λ l. reduced body (k .element) l (dimsOf (k .from)) (dimsOf (k .to)) (getD y 0 0) x) (k .count) (k .first) a)

@@ -13,8 +13,8 @@ use Rattle.shape.specs.Index.{at}
 use Rattle.shape.specs.Dims.{dimsOf, Sized, Fills}
 use Rattle.shape.specs.Whole.{numberOf}
 use Rattle.maps.specs.Holds.{Stretches, ReshapeHolds, TransposeHolds, SliceHolds, PadHolds, DynamicSliceHolds, IotaHolds}
-use Rattle.reduction.specs.Rows.{Stretches as ReduceStretches}
-use Rattle.elementwise.specs.Elementwise.{Tensor, Sized as TwoSized, SelectSized, ClampSized}
+use Rattle.reduction.specs.Rows.{ReduceStretches}
+use Rattle.elementwise.specs.Elementwise.{Tensor, TwoSized, SelectSized, ClampSized}
 use Rattle.ops.specs.declared.Move.{Move}
 use Rattle.ops.specs.declared.Move.the-variants.{Reshape, BroadcastInDim, Transpose, Slice, Reverse}
 use Rattle.ops.specs.declared.Kind.{Kind}
@@ -42,25 +42,25 @@ nodeOf kind k =
     }
 
 -- the operands' tensors: of dynamic_slice, operand 0 and the starts, one for each of its dimensions
-abbrev pub tensorsOf : Task → Kind → List ℕ → Tensor → Tensor → Tensor → List Tensor
-tensorsOf k DynamicSlice starts x y z = x ∷ map (λ s. s ∷ []) (take (k .from .rank) starts)
-tensorsOf k Constant starts x y z = x ∷ y ∷ z ∷ []
-tensorsOf k Iota starts x y z = x ∷ y ∷ z ∷ []
-tensorsOf k (Elementwise op) starts x y z = x ∷ y ∷ z ∷ []
-tensorsOf k (Pairwise op) starts x y z = x ∷ y ∷ z ∷ []
-tensorsOf k (Quotient op) starts x y z = x ∷ y ∷ z ∷ []
-tensorsOf k (Compare d) starts x y z = x ∷ y ∷ z ∷ []
-tensorsOf k Convert starts x y z = x ∷ y ∷ z ∷ []
-tensorsOf k Select starts x y z = x ∷ y ∷ z ∷ []
-tensorsOf k Clamp starts x y z = x ∷ y ∷ z ∷ []
-tensorsOf k (Moved m) starts x y z = x ∷ y ∷ z ∷ []
-tensorsOf k Pad starts x y z = x ∷ y ∷ z ∷ []
-tensorsOf k Concatenate starts x y z = x ∷ y ∷ z ∷ []
-tensorsOf k (Reduce body) starts x y z = x ∷ y ∷ z ∷ []
+abbrev pub taskTensors : Task → Kind → List ℕ → Tensor → Tensor → Tensor → List Tensor
+taskTensors k DynamicSlice starts x y z = x ∷ map (λ s. s ∷ []) (take (k .from .rank) starts)
+taskTensors k Constant starts x y z = x ∷ y ∷ z ∷ []
+taskTensors k Iota starts x y z = x ∷ y ∷ z ∷ []
+taskTensors k (Elementwise op) starts x y z = x ∷ y ∷ z ∷ []
+taskTensors k (Pairwise op) starts x y z = x ∷ y ∷ z ∷ []
+taskTensors k (Quotient op) starts x y z = x ∷ y ∷ z ∷ []
+taskTensors k (Compare d) starts x y z = x ∷ y ∷ z ∷ []
+taskTensors k Convert starts x y z = x ∷ y ∷ z ∷ []
+taskTensors k Select starts x y z = x ∷ y ∷ z ∷ []
+taskTensors k Clamp starts x y z = x ∷ y ∷ z ∷ []
+taskTensors k (Moved m) starts x y z = x ∷ y ∷ z ∷ []
+taskTensors k Pad starts x y z = x ∷ y ∷ z ∷ []
+taskTensors k Concatenate starts x y z = x ∷ y ∷ z ∷ []
+taskTensors k (Reduce body) starts x y z = x ∷ y ∷ z ∷ []
 
 -- what the op gives
-abbrev pub outcome : Task → Kind → List ℕ → Tensor → Tensor → Tensor → Out Tensor ℕ
-outcome k kind starts x y z = byFold hlo (wayOf (nodeOf kind k) kind (tensorsOf k kind starts x y z))
+abbrev pub taskOutcome : Task → Kind → List ℕ → Tensor → Tensor → Tensor → Out Tensor ℕ
+taskOutcome k kind starts x y z = byFold hlo (wayOf (nodeOf kind k) kind (taskTensors k kind starts x y z))
 
 -- an array's first n patterns are those of numbers that are not negative
 abbrev pub AreNatural : ℕ → List ℕ → Type 0
@@ -79,21 +79,21 @@ MoveReady k Slice x out =
     × AreNatural (k .count) (k .first) × AreNatural (k .from .rank) (k .second)
 MoveReady k Reverse x out = Stretches (k .to) (k .to) x out × (k .count ≤ 6) × AreNatural (k .count) (k .first)
 
-abbrev pub Ready : Task → Kind → Tensor → Tensor → Tensor → List ℕ → Type 0
-Ready k Constant x y z out = ⊥
-Ready k Concatenate x y z out = ⊥
-Ready k (Quotient op) x y z out = ⊥
-Ready k Iota x y z out = Sized (k .to) × Fills out (k .to) × IotaHolds (at (k .first) 0) (dimsOf (k .to)) × (k .count ≡ 1)
-Ready k (Elementwise op) x y z out = Fills out (k .to) × (length x ≡ length out)
-Ready k (Pairwise op) x y z out = Fills out (k .to) × TwoSized (length out) x y
-Ready k (Compare d) x y z out = Fills out (k .to) × TwoSized (length out) x y
-Ready k Convert x y z out = Fills out (k .to) × (length x ≡ length out)
-Ready k Select x y z out = Fills out (k .to) × SelectSized (eqb (length (dimsOf (k .from))) 0) (length out) x y z
-Ready k Clamp x y z out =
+abbrev pub TaskReady : Task → Kind → Tensor → Tensor → Tensor → List ℕ → Type 0
+TaskReady k Constant x y z out = ⊥
+TaskReady k Concatenate x y z out = ⊥
+TaskReady k (Quotient op) x y z out = ⊥
+TaskReady k Iota x y z out = Sized (k .to) × Fills out (k .to) × IotaHolds (at (k .first) 0) (dimsOf (k .to)) × (k .count ≡ 1)
+TaskReady k (Elementwise op) x y z out = Fills out (k .to) × (length x ≡ length out)
+TaskReady k (Pairwise op) x y z out = Fills out (k .to) × TwoSized (length out) x y
+TaskReady k (Compare d) x y z out = Fills out (k .to) × TwoSized (length out) x y
+TaskReady k Convert x y z out = Fills out (k .to) × (length x ≡ length out)
+TaskReady k Select x y z out = Fills out (k .to) × SelectSized (eqb (length (dimsOf (k .from))) 0) (length out) x y z
+TaskReady k Clamp x y z out =
     Fills out (k .to) × ClampSized (eqb (length (dimsOf (k .from))) 0) (eqb (length (dimsOf (k .last))) 0) (length out) x y z
-Ready k (Moved m) x y z out = MoveReady k m x out
-Ready k Pad x y z out =
+TaskReady k (Moved m) x y z out = MoveReady k m x out
+TaskReady k Pad x y z out =
     Stretches (k .from) (k .to) x out × PadHolds (take (k .from .rank) (k .second)) (dimsOf (k .from)) (dimsOf (k .to)) × (k .count ≡ k .from .rank)
     × AreNatural (k .from .rank) (k .second)
-Ready k DynamicSlice x y z out = Stretches (k .from) (k .to) x out × DynamicSliceHolds (dimsOf (k .from)) (dimsOf (k .to))
-Ready k (Reduce body) x y z out = ReduceStretches (k .from) (k .to) (k .count) x out × AreNatural (k .count) (k .first)
+TaskReady k DynamicSlice x y z out = Stretches (k .from) (k .to) x out × DynamicSliceHolds (dimsOf (k .from)) (dimsOf (k .to))
+TaskReady k (Reduce body) x y z out = ReduceStretches (k .from) (k .to) (k .count) x out × AreNatural (k .count) (k .first)

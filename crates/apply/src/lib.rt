@@ -7,7 +7,7 @@ ghost use lib.ListN.{length, getD};
 ghost use Rattle.run.specs.Run.{gives};
 ghost use Rattle.ops.specs.declared.Kind.the-variants.{Moved};
 ghost use Rattle.ops.specs.Ops.{moved};
-ghost use Rattle.apply.specs.Apply.{nodeOf, MoveReady, Ready, outcome};
+ghost use Rattle.apply.specs.Apply.{nodeOf, MoveReady, TaskReady, taskOutcome};
 use element::ElementType;
 use limits::Limits;
 use ops::Kind;
@@ -64,8 +64,8 @@ fn first_of(y: &[u64]) -> u64
 
 // x, y and z are the operands; starts are dynamic_slice's.
 pub fn fill(k: Task, starts: [u64; Limits::RANK], x: &[u64], y: &[u64], z: &[u64], out: &mut [u64])
-    requires { ⌜ Ready k (k .kind) (now x) (now y) (now z) (now out) ⌝ }
-    ensures { λ _. ⌜ outcome k (k .kind) starts (now (x .entry)) (now (y .entry)) (now (z .entry)) ≡ gives (now (out .exit)) ⌝ }
+    requires { ⌜ TaskReady k (k .kind) (now x) (now y) (now z) (now out) ⌝ }
+    ensures { λ _. ⌜ taskOutcome k (k .kind) starts (now (x .entry)) (now (y .entry)) (now (z .entry)) ≡ gives (now (out .exit)) ⌝ }
 {
     let kind = k.kind;
     let t = k.element;

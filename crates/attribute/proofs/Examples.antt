@@ -8,18 +8,18 @@ use lib.ListN.{take}
 use Rattle.lists.specs.Lists.{firstWhere, pick}
 use Rattle.scan.specs.Ascii.{ascii}
 use Rattle.scan.specs.Bytes.{isLetter, isDigit, isSpace, isSigil, isSign, inRun, runFrom, runEnd, startsWith, inComment, skipFrom, skipEnd}
-use Rattle.scan.specs.TypeText.{byteEnd, wordEnd, digitsEnd, sizeNext, shapeFrom, shapeEnd, complexEnd}
+use Rattle.scan.specs.TypeText.{byteEnd, wordEnd, digitsEnd, sizeNext, shapeEndFrom, shapeEnd, complexEnd}
 use Rattle.scan.specs.Quantized.{signEnd, integerEnd, fractionEnd, scientificEnd, floatEnd, colonEnd, parameterEnd, moreEnd, parametersEnd, storageEnd, quantizedEnd}
 use Rattle.scan.specs.TensorText.{elementEnd, typeClose}
 use Rattle.text.specs.Lex.{markToken, nameEnd, nameToken, signToken, quoteToken, plainWord, tensorToken, wordToken, lexeme, tokenAt}
 use Rattle.text.specs.Names.{wordIs}
-use Rattle.types.specs.Numbers.{digitsFrom, magnitudeOf, numberOf, isAttributeNumber, patternIn}
+use Rattle.types.specs.Numbers.{digitsFrom, magnitudeOf, decimalNumber, isAttributeNumber, patternIn}
 use Rattle.optable.specs.Table.{choiceKinds, choiceForm, choices, choiceKindNames, choiceNames}
-use Rattle.optable.specs.Find.{same, placeIn, findChoiceKind, findChoice}
+use Rattle.optable.specs.Find.{same, namePlace, findChoiceKind, findChoice}
 use Rattle.attribute.specs.declared.Numbers.{Numbers}
 use Rattle.attribute.specs.declared.Chosen.{Chosen}
 use Rattle.attribute.specs.declared.Constant.{Constant}
-use Rattle.attribute.specs.Attribute.{tokenAfter, wordForm, choiceAt, formAt, patternAt, numberAt, noNumbers, withNumber, goesOn, numbersFrom, numbersAt, endsLiteral, closeFrom, denseAt}
+use Rattle.attribute.specs.Attribute.{tokenAfter, wordForm, choiceAt, formAt, patternAt, numberAt, noneRead, withNumber, goesOn, numbersFrom, numbersAt, endsLiteral, closeFrom, denseTokens}
 
 abbrev listed : Numbers → List ℕ
 listed ns = take (ns .count) (ns .list)
@@ -61,9 +61,9 @@ cases =
     -- `UNSIGNED` is the choice 7, of the kind 1
     case (chosen (choiceAt sample 141)) (1 ∷ 7 ∷ []) ∷
     -- where the literal and the type of `dense<[[1, 2], [3, 4]]> : tensor<2x2xi32>` start
-    case (starts (denseAt sample 194)) (208 ∷ 228 ∷ []) ∷
+    case (starts (denseTokens sample 194)) (208 ∷ 228 ∷ []) ∷
     []
 
 examples : T (right cases)
-unfolding cases sample tokenAfter choiceForm wordForm choiceAt formAt patternAt numberAt noNumbers withNumber goesOn numbersFrom numbersAt endsLiteral closeFrom denseAt digitsFrom magnitudeOf numberOf isAttributeNumber patternIn choiceKinds choices choiceKindNames choiceNames same placeIn findChoiceKind findChoice firstWhere isLetter isDigit isSpace isSigil isSign inRun runFrom runEnd startsWith inComment skipFrom skipEnd byteEnd wordEnd digitsEnd sizeNext shapeFrom shapeEnd complexEnd signEnd integerEnd fractionEnd scientificEnd floatEnd colonEnd parameterEnd moreEnd parametersEnd storageEnd quantizedEnd elementEnd typeClose markToken nameEnd nameToken signToken quoteToken plainWord tensorToken wordToken lexeme tokenAt wordIs
+unfolding cases sample tokenAfter choiceForm wordForm choiceAt formAt patternAt numberAt noneRead withNumber goesOn numbersFrom numbersAt endsLiteral closeFrom denseTokens digitsFrom magnitudeOf decimalNumber isAttributeNumber patternIn choiceKinds choices choiceKindNames choiceNames same namePlace findChoiceKind findChoice firstWhere isLetter isDigit isSpace isSigil isSign inRun runFrom runEnd startsWith inComment skipFrom skipEnd byteEnd wordEnd digitsEnd sizeNext shapeEndFrom shapeEnd complexEnd signEnd integerEnd fractionEnd scientificEnd floatEnd colonEnd parameterEnd moreEnd parametersEnd storageEnd quantizedEnd elementEnd typeClose markToken nameEnd nameToken signToken quoteToken plainWord tensorToken wordToken lexeme tokenAt wordIs
 examples = tt

@@ -12,8 +12,8 @@ use Rattle.scan.specs.Bytes.{among}
 use Rattle.text.specs.Lex.{tokenAt}
 use Rattle.text.specs.Names.{wordIs}
 use Rattle.text.specs.declared.Token.{Token}
-use Rattle.types.specs.Numbers.{numberOf, patternIn}
-use Rattle.optable.specs.Table.{Numbers as NumberList, Number, Dense, choiceForm, noKind}
+use Rattle.types.specs.Numbers.{decimalNumber, patternIn}
+use Rattle.optable.specs.Table.{NumbersKind as NumberList, Number, DenseKind, choiceForm, noKind}
 use Rattle.optable.specs.Find.{findChoiceKind, findChoice}
 use Rattle.attribute.specs.declared.Numbers.{Numbers}
 use Rattle.attribute.specs.declared.Chosen.{Chosen}
@@ -25,14 +25,14 @@ tokenAfter zero text at = tokenAt text at
 tokenAfter (suc n) text at = tokenAfter n text (tokenAt text at .end)
 
 -- Attribute ::= Name '=' Value: the value's first token is the second after the name
-abbrev pub valueAt : List ℕ → ℕ → Token
-valueAt text name = tokenAfter 2 text name
+abbrev pub valueToken : List ℕ → ℕ → Token
+valueToken text name = tokenAfter 2 text name
 
 -- a value that begins with a word: `array` or `dense`
 unfoldable pub wordForm : List ℕ → Token → ℕ
 wordForm text t =
     pick (wordIs (ascii "array") text (t .start) (t .end)) NumberList
-    (pick (wordIs (ascii "dense") text (t .start) (t .end)) Dense noKind)
+    (pick (wordIs (ascii "dense") text (t .start) (t .end)) DenseKind noKind)
 
 -- Choice ::= '#stablehlo' '<' ChoiceKind Choice '>': the rows of its two words in the table of ops
 unfoldable pub choiceAt : List ℕ → ℕ → Chosen
@@ -44,21 +44,21 @@ choiceAt text name =
 -- the kind of the value, as in the table of ops, by its first token: a number, `#stablehlo`, or a word
 unfoldable pub formAt : List ℕ → ℕ → ℕ
 formAt text name =
-    let t = valueAt text name in
+    let t = valueToken text name in
     pick (eqb (t .kind) 2) Number
     (pick (eqb (t .kind) 5) (choiceForm (choiceAt text name .kind))
     (pick (eqb (t .kind) 1) (wordForm text t) noKind))
 
 -- the number whose token starts here, as a signed 64-bit pattern; 0 where it does not fit (01, Sizes, 7)
 unfoldable pub patternAt : List ℕ → ℕ → ℕ
-patternAt text start = patternIn (numberOf text start) .bits
+patternAt text start = patternIn (decimalNumber text start) .bits
 
 -- SingleNumber ::= Number ':' 'i64'
 unfoldable pub numberAt : List ℕ → ℕ → ℕ
-numberAt text name = patternAt text (valueAt text name .start)
+numberAt text name = patternAt text (valueToken text name .start)
 
-unfoldable pub noNumbers : Numbers
-noNumbers = record { count = 0; list = replicate 6 0 }
+unfoldable pub noneRead : Numbers
+noneRead = record { count = 0; list = replicate 6 0 }
 
 -- one number more; "An attribute list has at most 6 numbers" (01, Sizes, 6)
 unfoldable pub withNumber : Numbers → ℕ → Numbers
@@ -78,7 +78,7 @@ numbersFrom (suc left) ns text at =
 
 -- NumberList ::= 'array' '<' 'i64' Numbers '>'
 unfoldable pub numbersAt : List ℕ → ℕ → Numbers
-numbersAt text name = numbersFrom 6 noNumbers text (tokenAfter 4 text name .end)
+numbersAt text name = numbersFrom 6 noneRead text (tokenAfter 4 text name .end)
 
 -- `>`, or the end of the text: a literal has neither
 unfoldable pub endsLiteral : ℕ → Bool
@@ -92,7 +92,7 @@ closeFrom (suc left) text at =
     pick (endsLiteral (t .kind)) (t .end) (closeFrom left text (t .end))
 
 -- Constant ::= 'dense' '<' Literal '>' ':' Type: where the literal and the type start; a text has at most one token for each byte
-unfoldable pub denseAt : List ℕ → ℕ → Constant
-denseAt text name =
+unfoldable pub denseTokens : List ℕ → ℕ → Constant
+denseTokens text name =
     let literal = tokenAfter 4 text name .start in
     record { literal = literal; ty = tokenAfter 1 text (closeFrom (length text) text literal) .start }

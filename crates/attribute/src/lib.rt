@@ -15,7 +15,7 @@ ghost use mathlib.Core.Path.{_≡_};
 ghost use lib.ListN.{length};
 ghost use Rattle.scan.specs.Ascii.{ascii};
 ghost use Rattle.text.specs.Names.{wordIs};
-ghost use Rattle.attribute.specs.Attribute.{tokenAfter, wordForm, choiceAt, formAt, patternAt, numberAt, noNumbers, withNumber, goesOn, numbersFrom, numbersAt, endsLiteral, closeFrom, denseAt};
+ghost use Rattle.attribute.specs.Attribute.{tokenAfter, wordForm, choiceAt, formAt, patternAt, numberAt, noneRead, withNumber, goesOn, numbersFrom, numbersAt, endsLiteral, closeFrom, denseTokens};
 
 // The numbers of a list, as signed 64-bit patterns.
 pub struct Numbers {
@@ -116,7 +116,7 @@ pub fn number_at(text: &[u8], name: usize) -> usize
 }
 
 fn no_numbers() -> Numbers
-    ensures { λ r. ⌜ r ≡ noNumbers ⌝ }
+    ensures { λ r. ⌜ r ≡ noneRead ⌝ }
 {
     Numbers {
         count: 0,
@@ -152,7 +152,7 @@ fn goes_on(kind: u8) -> bool
 
 // The numbers from a cursor on.
 fn numbers_from(text: &[u8], from: Cursor) -> Numbers
-    ensures { λ r. ⌜ r ≡ numbersFrom 6 noNumbers (now (text .entry)) (from .at) ⌝ }
+    ensures { λ r. ⌜ r ≡ numbersFrom 6 noneRead (now (text .entry)) (from .at) ⌝ }
 {
     let mut ns = no_numbers();
     let mut c = from;
@@ -207,7 +207,7 @@ fn close_of(text: &[u8], from: Cursor) -> Cursor
 }
 
 pub fn dense_at(text: &[u8], name: usize) -> Constant
-    ensures { λ r. ⌜ r ≡ denseAt (now (text .entry)) name ⌝ }
+    ensures { λ r. ⌜ r ≡ denseTokens (now (text .entry)) name ⌝ }
 {
     let literal = token_after(text, Cursor { at: name }, 4).start;
     let close = close_of(text, Cursor { at: literal });

@@ -17,7 +17,7 @@ use Rattle.lists.proofs.SearchLaw.{none-passes}
 use Rattle.scan.specs.Bytes.{among}
 use Rattle.text.specs.Lex.{tokenAt}
 use Rattle.optable.specs.Table.{noAttribute, attributeKind, attributeNames, attributes}
-use Rattle.optable.specs.Find.{findAttribute, slotIn, placeIn, same, stretch}
+use Rattle.optable.specs.Find.{findAttribute, slotIn, namePlace, same, stretch}
 use Rattle.optable.specs.declared.Row.{Row}
 use Rattle.dimrules.specs.Count.{everywhere}
 use Rattle.program.specs.declared.Parts.{Parts}
@@ -25,7 +25,7 @@ use Rattle.places.specs.Places.{attributeName, countOf, placeOf}
 use Rattle.attributes.specs.Attributes.{attributesOf, attributeOf, standsAt, stands, kindFits, attributeFits, neededAt, attributesFit}
 use Rattle.attributes.proofs.AttributesLaw.{Sought, seek-none, seek-next, seek-here, attributes-few, attributes-each, attributes-needed}
 use Rattle.source.specs.Source.{AttributeText}
-use Rattle.verifier.specs.AttributeRules.{firstToken, someOf, attributeNumber, noAttributeText, missingAttribute, doubledAttribute, foreignAttribute, otherKind, unfitDense}
+use Rattle.verifier.specs.AttributeRules.{firstToken, someOf, attributeNumber, noAttributeText, missingAttribute, doubledAttribute, foreignAttribute, unlikeKind, unfitDense}
 use Rattle.source_laws.specs.Listed.{PartListed}
 use Rattle.default_laws.proofs.AttributeLaw.{few-attributes, stands-there}
 use Rattle.default_laws.proofs.DenseLaw.{not-both}
@@ -41,7 +41,7 @@ pub record RowNames (row : Row) (required optional : List ℕ) : Type 0 where
   pub each : (s : ℕ) → s < length required → neededAt row s ≡ getD required s 0
 
 pub number-within : (text : List ℕ) (a : AttributeText) → attributeNumber text a ≤ noAttribute
-unfolding findAttribute placeIn attributeNames attributes
+unfolding findAttribute namePlace attributeNames attributes
 number-within text a = let at = firstToken (a .names) in first-within (λ n. same n (stretch text at (tokenAt text at .end))) attributeNames
 
 -- an op whose attributes' names are those of the lists, each of one of the four forms
@@ -98,7 +98,7 @@ module _ (text : List ℕ) (op : Parts) (attrs : List AttributeText) (listed : P
   module _ (row : Row) (required optional : List ℕ) (names : RowNames row required optional) where
     abbrev unfit : Bool
     unfit =
-        missingAttribute text required attrs || doubledAttribute text attrs || foreignAttribute text (required ++ optional) attrs || someOf (otherKind text) attrs
+        missingAttribute text required attrs || doubledAttribute text attrs || foreignAttribute text (required ++ optional) attrs || someOf (unlikeKind text) attrs
 
     abbrev wrong : Bool
     wrong = someOf (unfitDense text) attrs
@@ -144,10 +144,10 @@ module _ (text : List ℕ) (op : Parts) (attrs : List AttributeText) (listed : P
       known : (j : ℕ) → j < length attrs → number j < noAttribute
       known j h = ltb-true (number j) noAttribute (both-true (ltb (number j) noAttribute) (ltb (slotIn row (number j)) 3) (fits-at j h .0) .0)
 
-      kind-at : (j : ℕ) → j < length attrs → (otherKind text (attr j) ≡ false) × (unfitDense text (attr j) ≡ false)
+      kind-at : (j : ℕ) → j < length attrs → (unlikeKind text (attr j) ≡ false) × (unfitDense text (attr j) ≡ false)
       kind-at j h =
-          let e : not (otherKind text (attr j)) && not (unfitDense text (attr j)) ≡ true = sym (kind-fits-is text (piece j h) (known j h)) ∙ fits-at j h .2 in
-          let b = both-true (not (otherKind text (attr j))) (not (unfitDense text (attr j))) e in
+          let e : not (unlikeKind text (attr j)) && not (unfitDense text (attr j)) ≡ true = sym (kind-fits-is text (piece j h) (known j h)) ∙ fits-at j h .2 in
+          let b = both-true (not (unlikeKind text (attr j))) (not (unfitDense text (attr j))) e in
           (not-false-true _ (b .0), not-false-true _ (b .1))
 
       none-missing : missingAttribute text required attrs ≡ false
@@ -169,19 +169,19 @@ module _ (text : List ℕ) (op : Parts) (attrs : List AttributeText) (listed : P
 
       no-reason : not unfit && not wrong ≡ true
       no-reason =
-          rw (none-missing, none-doubled, none-foreign, some-none (otherKind text) noAttributeText attrs (λ j h. kind-at j h .0), some-none (unfitDense text) noAttributeText attrs (λ j h. kind-at j h .1))
+          rw (none-missing, none-doubled, none-foreign, some-none (unlikeKind text) noAttributeText attrs (λ j h. kind-at j h .0), some-none (unfitDense text) noAttributeText attrs (λ j h. kind-at j h .1))
 
     -- ---- what has no reason fits
 
     module _ (good : not unfit && not wrong ≡ true) where
       reasons : (missingAttribute text required attrs ≡ false) × (doubledAttribute text attrs ≡ false) × (foreignAttribute text (required ++ optional) attrs ≡ false) ×
-          (someOf (otherKind text) attrs ≡ false) × (wrong ≡ false)
+          (someOf (unlikeKind text) attrs ≡ false) × (wrong ≡ false)
       reasons =
           let b = both-true (not unfit) (not wrong) good in
           let m = missingAttribute text required attrs in
           let d = doubledAttribute text attrs in
           let f = foreignAttribute text (required ++ optional) attrs in
-          let o = someOf (otherKind text) attrs in
+          let o = someOf (unlikeKind text) attrs in
           let x = neither (m || d || f) o (not-false-true unfit (b .0)) in
           let y = neither (m || d) f (x .0) in
           let z = neither m d (y .0) in
@@ -204,7 +204,7 @@ module _ (text : List ℕ) (op : Parts) (attrs : List AttributeText) (listed : P
           let s : standsAt text op (number j) ≡ j = stands-at (number j) j h e
           (λ i g q. doubled-false text noAttributeText attrs (reasons .1) i j g l (sym (attribute-number i (omega arith)) ∙ q)) in
           let f : kindFits text (firstToken (attr j .names)) (attributeKind (number j)) ≡ true =
-          kind-fits-is text (piece j l) k ∙ rw (some-false (otherKind text) noAttributeText attrs (reasons .3) j l, some-false (unfitDense text) noAttributeText attrs (reasons .4) j l) in
+          kind-fits-is text (piece j l) k ∙ rw (some-false (unlikeKind text) noAttributeText attrs (reasons .3) j l, some-false (unfitDense text) noAttributeText attrs (reasons .4) j l) in
           rw (e, w, a, s, eq-eqb j j refl, f)
 
       fits-each : everywhere (attributesOf op) (attributeFits text op row) ≡ true

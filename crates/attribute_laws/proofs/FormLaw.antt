@@ -11,10 +11,10 @@ use Rattle.lists.specs.Lists.{pick}
 use Rattle.scan.specs.Ascii.{ascii}
 use Rattle.text.specs.Names.{wordIs}
 use Rattle.text.specs.declared.Token.{Token}
-use Rattle.grammar.specs.Symbols.{END, WORD, NUMBER, FUNC, DIALECT, TYPE, ARROW, OTHER, ARRAY, DENSE, BOOLEAN, I64, TOKEN, TUPLE, LPAREN, RPAREN, LBRACE, RBRACE, LANGLE, RANGLE, LBRACKET, RBRACKET, COMMA, COLON, EQUALS, among}
+use Rattle.grammar.specs.Symbols.{END, WORD, NUMBER, FUNC, DIALECT, TYPE, ARROW, OTHER, ARRAY, DENSE, BOOLEAN, I64, TOKEN, TUPLE, LPAREN, RPAREN, LBRACE, RBRACE, LANGLE, RANGLE, LBRACKET, RBRACKET, COMMA, COLON, EQUALS, amongSymbols}
 use Rattle.syntax.specs.Kinds.{markKind, nameKind, wordKind, quotedKind, tokenKind, kindOf}
-use Rattle.optable.specs.Table.{Numbers as NumberList, Number, Dense, choiceForm}
-use Rattle.attribute.specs.Attribute.{valueAt, wordForm, choiceAt, formAt}
+use Rattle.optable.specs.Table.{NumbersKind as NumberList, Number, DenseKind, choiceForm}
+use Rattle.attribute.specs.Attribute.{valueToken, wordForm, choiceAt, formAt}
 use Rattle.default_laws.proofs.DenseLaw.{not-both}
 
 -- kinds of the grammar, and the kind in the text of a token that has one of them
@@ -25,9 +25,9 @@ abbrev kindBack : ℕ → ℕ
 kindBack n = pick (eqb n NUMBER) 2 (pick (eqb n DIALECT) 5 (pick (eqb n RANGLE) 62 1))
 
 record Back (k n : ℕ) : Type 0 where
-  back : among told n ≡ true → k ≡ kindBack n
+  back : amongSymbols told n ≡ true → k ≡ kindBack n
 
-other : (k n : ℕ) → among told n ≡ false → Back k n
+other : (k n : ℕ) → amongSymbols told n ≡ false → Back k n
 other k n e = record { back = λ m. absurd (not-both m e) }
 
 either : (k : ℕ) (b : Bool) (x y : ℕ) → Back k x → Back k y → Back k (pick b x y)
@@ -81,15 +81,15 @@ kind-back text t =
     either k (eqb k 0) END _ (other k END refl)
     (where-so k 1 _ _ (word-back k text (t .start) (t .end)) (either k (eqb k 3) _ _ (name-back k _) (either k (eqb k 6) _ _ (quoted-back k text (t .start) (t .end)) (mark-back k))))
 
-pub kind-told : (text : List ℕ) (t : Token) (n : ℕ) → kindOf text t ≡ n → among told n ≡ true → t .kind ≡ kindBack n
-kind-told text t n e m = subst (λ (n : ℕ). among told n ≡ true → t .kind ≡ kindBack n) e (kind-back text t .back) m
+pub kind-told : (text : List ℕ) (t : Token) (n : ℕ) → kindOf text t ≡ n → amongSymbols told n ≡ true → t .kind ≡ kindBack n
+kind-told text t n e m = subst (λ (n : ℕ). amongSymbols told n ≡ true → t .kind ≡ kindBack n) e (kind-back text t .back) m
 
 -- ---- the words `array` and `dense`
 
 record Plain (n : ℕ) : Type 0 where
-  plain : among (ARRAY ∷ DENSE ∷ []) n ≡ false
+  plain : amongSymbols (ARRAY ∷ DENSE ∷ []) n ≡ false
 
-is-plain : (n : ℕ) → among (ARRAY ∷ DENSE ∷ []) n ≡ false → Plain n
+is-plain : (n : ℕ) → amongSymbols (ARRAY ∷ DENSE ∷ []) n ≡ false → Plain n
 is-plain n e = record { plain = e }
 
 one-of : (b : Bool) (x y : ℕ) → Plain x → Plain y → Plain (pick b x y)
@@ -99,12 +99,12 @@ one-of false x y h g = g
 array-word : (a d : Bool) (n : ℕ) → Plain n → pick a ARRAY (pick d DENSE n) ≡ ARRAY → a ≡ true
 array-word true d n p e = refl
 array-word false true n p e = absurd (omega arith)
-array-word false false n p e = absurd (not-both {b = true} refl (subst (λ (n : ℕ). among (ARRAY ∷ DENSE ∷ []) n ≡ false) e (p .plain)))
+array-word false false n p e = absurd (not-both {b = true} refl (subst (λ (n : ℕ). amongSymbols (ARRAY ∷ DENSE ∷ []) n ≡ false) e (p .plain)))
 
 dense-word : (a d : Bool) (n : ℕ) → Plain n → pick a ARRAY (pick d DENSE n) ≡ DENSE → (a ≡ false) × (d ≡ true)
 dense-word true d n p e = absurd (omega arith)
 dense-word false true n p e = (refl, refl)
-dense-word false false n p e = absurd (not-both {b = true} refl (subst (λ (n : ℕ). among (ARRAY ∷ DENSE ∷ []) n ≡ false) e (p .plain)))
+dense-word false false n p e = absurd (not-both {b = true} refl (subst (λ (n : ℕ). amongSymbols (ARRAY ∷ DENSE ∷ []) n ≡ false) e (p .plain)))
 
 module _ (text : List ℕ) where
   rest-plain : (t : Token) → Plain
@@ -130,18 +130,18 @@ module _ (text : List ℕ) where
 
   -- ---- the form of the value of the attribute whose name is at a byte
 
-  pub form-number : (name : ℕ) → kindOf text (valueAt text name) ≡ NUMBER → formAt text name ≡ Number
+  pub form-number : (name : ℕ) → kindOf text (valueToken text name) ≡ NUMBER → formAt text name ≡ Number
   unfolding formAt
-  form-number name e = rw (kind-told text (valueAt text name) NUMBER e refl)
+  form-number name e = rw (kind-told text (valueToken text name) NUMBER e refl)
 
-  pub form-choice : (name : ℕ) → kindOf text (valueAt text name) ≡ DIALECT → formAt text name ≡ choiceForm (choiceAt text name .kind)
+  pub form-choice : (name : ℕ) → kindOf text (valueToken text name) ≡ DIALECT → formAt text name ≡ choiceForm (choiceAt text name .kind)
   unfolding formAt
-  form-choice name e = rw (kind-told text (valueAt text name) DIALECT e refl)
+  form-choice name e = rw (kind-told text (valueToken text name) DIALECT e refl)
 
-  pub form-list : (name : ℕ) → kindOf text (valueAt text name) ≡ ARRAY → formAt text name ≡ NumberList
+  pub form-list : (name : ℕ) → kindOf text (valueToken text name) ≡ ARRAY → formAt text name ≡ NumberList
   unfolding formAt wordForm
-  form-list name e = let k = kind-told text (valueAt text name) ARRAY e refl in rw (k, is-array (valueAt text name) k e)
+  form-list name e = let k = kind-told text (valueToken text name) ARRAY e refl in rw (k, is-array (valueToken text name) k e)
 
-  pub form-dense : (name : ℕ) → kindOf text (valueAt text name) ≡ DENSE → formAt text name ≡ Dense
+  pub form-dense : (name : ℕ) → kindOf text (valueToken text name) ≡ DENSE → formAt text name ≡ DenseKind
   unfolding formAt wordForm
-  form-dense name e = let k = kind-told text (valueAt text name) DENSE e refl in let w = is-dense (valueAt text name) k e in rw (k, w .0, w .1)
+  form-dense name e = let k = kind-told text (valueToken text name) DENSE e refl in let w = is-dense (valueToken text name) k e in rw (k, w .0, w .1)

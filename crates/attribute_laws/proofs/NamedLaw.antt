@@ -13,14 +13,14 @@ use Rattle.lists.specs.Lists.{pick, firstWhere, All}
 use Rattle.lists.proofs.TestLaw.{both-true}
 use Rattle.shape.specs.Dims.{dimsOf}
 use Rattle.dense.specs.Dense.{denseValue}
-use Rattle.optable.specs.Table.{Dense, Direction, CompareType, attributes, attributeNames, attributeKind, noChoice, value, comparisonDirection, compareType}
-use Rattle.optable.specs.Find.{placeIn, same}
+use Rattle.optable.specs.Table.{DenseKind, Direction, CompareType, attributes, attributeNames, attributeKind, noChoice, value, comparisonDirection, compareType}
+use Rattle.optable.specs.Find.{namePlace, same}
 use Rattle.optable.specs.declared.Row.{Row}
 use Rattle.program.specs.declared.Parts.{Parts}
 use Rattle.places.specs.Places.{attributeName, placeOf, typeIn}
-use Rattle.attribute.specs.Attribute.{formAt, choiceAt, denseAt}
+use Rattle.attribute.specs.Attribute.{formAt, choiceAt, denseTokens}
 use Rattle.attributes.specs.Attributes.{standsAt, stands, kindFits, attributesFit, nameOf, choiceOf, denseType}
-use Rattle.nodes.specs.Nodes.{elementsOf}
+use Rattle.nodes.specs.Nodes.{denseElements}
 use Rattle.source.specs.Source.{AttributeText}
 use Rattle.verifier.specs.AttributeRules.{firstToken, attributeNumber, choiceNumber, typeWritten, denseWritten, noAttributeText, attributeWith, choiceNamedBy}
 use Rattle.source_laws.specs.Listed.{PartListed}
@@ -32,16 +32,16 @@ use Rattle.attribute_laws.proofs.SomeLaw.{doubled-false}
 use Rattle.attribute_laws.proofs.FitLaw.{RowNames, attribute-number, attribute-place, piece, stands-nowhere, all-told, few, none-doubled}
 
 -- the kinds of the attributes that are not numbers
-pub value-dense : attributeKind value ≡ Dense
-unfolding attributeKind attributes attributeNames placeIn same firstWhere
+pub value-dense : attributeKind value ≡ DenseKind
+unfolding attributeKind attributes attributeNames namePlace same firstWhere
 value-dense = refl
 
 pub direction-chosen : attributeKind comparisonDirection ≡ Direction
-unfolding attributeKind attributes attributeNames placeIn same firstWhere
+unfolding attributeKind attributes attributeNames namePlace same firstWhere
 direction-chosen = refl
 
 pub compared-chosen : attributeKind compareType ≡ CompareType
-unfolding attributeKind attributes attributeNames placeIn same firstWhere
+unfolding attributeKind attributes attributeNames namePlace same firstWhere
 compared-chosen = refl
 
 -- the first attribute of a name
@@ -117,7 +117,7 @@ module _ (text : List ℕ) (op : Parts) (attrs : List AttributeText) (listed : P
       by-test false e = sym (ap (λ (a : AttributeText). pick (ltb 0 (length (a .choices))) (choiceNumber text a) noChoice) (gone k e))
 
   -- the type written after the dense value of attribute k, which stands
-  pub type-named : (k : ℕ) → attributeKind k ≡ Dense → stands text op k ≡ true → denseType text op k ≡ typeWritten text (attributeWith text k attrs)
+  pub type-named : (k : ℕ) → attributeKind k ≡ DenseKind → stands text op k ≡ true → denseType text op k ≡ typeWritten text (attributeWith text k attrs)
   unfolding denseType
   type-named k c e =
       let s = stood k e in
@@ -129,12 +129,12 @@ module _ (text : List ℕ) (op : Parts) (attrs : List AttributeText) (listed : P
   dense-named e = let s = stood value e in is-dense text (s .written) (s .form ∙ value-dense)
 
   -- the elements of a constant's dense value
-  pub elements-named : stands text op value ≡ true → elementsOf text op ≡ denseWritten text (attributeWith text value attrs) .elements
-  unfolding elementsOf
+  pub elements-named : stands text op value ≡ true → denseElements text op ≡ denseWritten text (attributeWith text value attrs) .elements
+  unfolding denseElements
   elements-named e =
       let s = stood value e in
       let i = is-dense text (s .written) (s .form ∙ value-dense) in
-      let c = denseAt text (nameOf text op value) in
+      let c = denseTokens text (nameOf text op value) in
       let a = attributeWith text value attrs in
       rw e (
       ap (λ (l : ℕ). denseValue (typeIn text (c .ty) .element) (dimsOf (typeIn text (c .ty) .shape)) text l .elements) (literal-is text (s .written) i)

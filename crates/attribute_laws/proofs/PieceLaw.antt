@@ -9,7 +9,7 @@ use lib.Dec.{T, eqb}
 use borrow.Author.Tests.{eqb-true, eqb-false}
 use Rattle.lists.specs.Lists.{pick}
 use Rattle.scan.specs.Bytes.{among}
-use Rattle.grammar.specs.Symbols.{AttributeName, SingleNumber, ListNumber, ChoiceKind, Choice, ElementLiteral, DenseOpen, DenseType, BodyOpen, BodyClose, among as amongSymbols}
+use Rattle.grammar.specs.Symbols.{AttributeName, SingleNumber, ListNumber, ChoiceKind, Choice, ElementLiteral, DenseOpen, DenseType, BodyOpen, BodyClose, amongSymbols}
 use Rattle.syntax.specs.Readings.{Reading}
 use Rattle.syntax.specs.Roles.{rolesOf}
 use Rattle.program.specs.Parts.{depthAfter}

@@ -13,12 +13,12 @@ use Rattle.text.specs.Lex.{tokenAt}
 use Rattle.text.specs.declared.Token.{Token}
 use Rattle.grammar.proofs.TableTest.{up-to}
 use Rattle.syntax.proofs.AloneLaw.{token-again}
-use Rattle.optable.specs.Table.{Numbers, Number, Dense, Direction, CompareType, noKind, noAttribute, attributes, attributeKind, choiceKinds, choiceForm, choiceKind}
+use Rattle.optable.specs.Table.{NumbersKind, Number, DenseKind, Direction, CompareType, noKind, noAttribute, attributes, attributeKind, choiceKinds, choiceForm, choiceKind}
 use Rattle.optable.specs.Find.{findChoiceKind, findChoice}
-use Rattle.attribute.specs.Attribute.{tokenAfter, formAt, choiceAt, denseAt}
+use Rattle.attribute.specs.Attribute.{tokenAfter, formAt, choiceAt, denseTokens}
 use Rattle.attributes.specs.Attributes.{choiceFits, denseFits, kindFits}
 use Rattle.source.specs.Source.{AttributeText}
-use Rattle.verifier.specs.AttributeRules.{firstToken, attributeNumber, choiceNumber, valueKind, denseWritten, otherKind, unfitDense}
+use Rattle.verifier.specs.AttributeRules.{firstToken, attributeNumber, choiceNumber, valueKind, denseWritten, unlikeKind, unfitDense}
 use Rattle.default_laws.proofs.DenseLaw.{not-both, no-T}
 use Rattle.attribute_laws.specs.ValueForms.{choiceText, ValueForm, FormedAttribute, number, list, dense, choice}
 use Rattle.attribute_laws.proofs.FormLaw.{form-number, form-choice, form-list, form-dense}
@@ -110,24 +110,24 @@ module _ (text : List ℕ) where
         ap (λ (u : Token). findChoice text (t .start) (u .end)) (sym (after-again 5 name))
 
     dense-by : {v : AttributeText} → ValueForm text (tokenAt text name .end) v → ltb 0 (length (v .types)) ≡ true →
-        (denseAt text name .literal ≡ firstToken (v .literals)) × (denseAt text name .ty ≡ firstToken (v .types))
-    unfolding tokenAfter denseAt
+        (denseTokens text name .literal ≡ firstToken (v .literals)) × (denseTokens text name .ty ≡ firstToken (v .types))
+    unfolding tokenAfter denseTokens
     dense-by (number k) e = absurd (not-both e refl)
     dense-by (list k m) e = absurd (not-both e refl)
     dense-by (dense k) e = (refl, refl)
     dense-by (choice k) e = absurd (not-both e refl)
 
     abbrev rest : ℕ → Bool
-    rest kind = pick (eqb kind Dense) (denseFits text name) (pick (eqb kind Direction) (choiceFits text name kind) (pick (eqb kind CompareType) (choiceFits text name kind) true))
+    rest kind = pick (eqb kind DenseKind) (denseFits text name) (pick (eqb kind Direction) (choiceFits text name kind) (pick (eqb kind CompareType) (choiceFits text name kind) true))
 
     fits-by : (kind : ℕ) → eqb kind noKind ≡ false → {v : AttributeText} → ValueForm text (tokenAt text name .end) v → kindFits text name kind ≡
         not (not (eqb (valueKind text (named name v)) kind) || (ltb 0 (length (v .choices)) && not (eqb (choiceKind (choiceNumber text (named name v))) kind))) &&
         not (ltb 0 (length (v .types)) && not (denseWritten text (named name v) .ok))
-    unfolding kindFits choiceFits denseFits tokenAfter denseAt choiceAt
+    unfolding kindFits choiceFits denseFits tokenAfter denseTokens choiceAt
     fits-by kind n (number k) =
         ap (λ (f : ℕ). eqb f kind && rest kind) (form-number text name k) ∙ plain-fits Number kind (denseFits text name) (choiceFits text name kind) (λ e. let z : 2 ≡ kind = eqb-true 2 kind e in rw (← z))
     fits-by kind n (list k m) =
-        ap (λ (f : ℕ). eqb f kind && rest kind) (form-list text name k) ∙ plain-fits Numbers kind (denseFits text name) (choiceFits text name kind) (λ e. let z : 1 ≡ kind = eqb-true 1 kind e in rw (← z))
+        ap (λ (f : ℕ). eqb f kind && rest kind) (form-list text name k) ∙ plain-fits NumbersKind kind (denseFits text name) (choiceFits text name kind) (λ e. let z : 1 ≡ kind = eqb-true 1 kind e in rw (← z))
     fits-by kind n (dense k) =
         ap (λ (f : ℕ). eqb f kind && rest kind) (form-dense text name k) ∙ dense-fits kind (denseFits text name) (choiceFits text name kind) (denseFits text name) refl
     fits-by kind n (choice k) =
@@ -146,14 +146,14 @@ module _ (text : List ℕ) where
     chosen (dense k) h = let e = form-dense text name k in absurd (omega arith)
     chosen (choice k) h = refl
 
-    typed : {v : AttributeText} → ValueForm text (tokenAt text name .end) v → formAt text name ≡ Dense → ltb 0 (length (v .types)) ≡ true
+    typed : {v : AttributeText} → ValueForm text (tokenAt text name .end) v → formAt text name ≡ DenseKind → ltb 0 (length (v .types)) ≡ true
     unfolding tokenAfter
     typed (number k) h = let e = form-number text name k in absurd (omega arith)
     typed (list k m) h = let e = form-list text name k in absurd (omega arith)
     typed (dense k) h = refl
     typed (choice k) h = absurd (by-form (choice-form (choiceAt text name .kind)) (sym (form-choice text name k) ∙ h))
       where
-        by-form : {n : ℕ} → ChoiceForm n → n ≡ Dense → ⊥
+        by-form : {n : ℕ} → ChoiceForm n → n ≡ DenseKind → ⊥
         by-form none e = omega arith
         by-form direction e = omega arith
         by-form compared e = omega arith
@@ -175,7 +175,7 @@ module _ (text : List ℕ) where
     pub is-choice : 3 < formAt text name → ltb 0 (length (a .choices)) ≡ true
     is-choice h = subst (λ (a : AttributeText). ltb 0 (length (a .choices)) ≡ true) (sym (p .whole)) (chosen name (p .form) h)
 
-    pub is-dense : formAt text name ≡ Dense → ltb 0 (length (a .types)) ≡ true
+    pub is-dense : formAt text name ≡ DenseKind → ltb 0 (length (a .types)) ≡ true
     is-dense h = subst (λ (a : AttributeText). ltb 0 (length (a .types)) ≡ true) (sym (p .whole)) (typed name (p .form) h)
 
     -- its choice, where it is one
@@ -183,14 +183,14 @@ module _ (text : List ℕ) where
     choice-is e = choice-by name (p .form) (some-choice e) ∙ ap (choiceNumber text) (sym (p .whole))
 
     -- its dense value, where it is one: the literal and the type
-    pub literal-is : ltb 0 (length (a .types)) ≡ true → denseAt text name .literal ≡ firstToken (a .literals)
+    pub literal-is : ltb 0 (length (a .types)) ≡ true → denseTokens text name .literal ≡ firstToken (a .literals)
     literal-is e = dense-by name (p .form) (some-type e) .0 ∙ ap (λ (a : AttributeText). firstToken (a .literals)) (sym (p .whole))
 
-    pub type-is : ltb 0 (length (a .types)) ≡ true → denseAt text name .ty ≡ firstToken (a .types)
+    pub type-is : ltb 0 (length (a .types)) ≡ true → denseTokens text name .ty ≡ firstToken (a .types)
     type-is e = dense-by name (p .form) (some-type e) .1 ∙ ap (λ (a : AttributeText). firstToken (a .types)) (sym (p .whole))
 
     -- it is of its kind, and a dense value fits its type
-    pub kind-fits-is : attributeNumber text a < noAttribute → kindFits text name (attributeKind (attributeNumber text a)) ≡ not (otherKind text a) && not (unfitDense text a)
+    pub kind-fits-is : attributeNumber text a < noAttribute → kindFits text name (attributeKind (attributeNumber text a)) ≡ not (unlikeKind text a) && not (unfitDense text a)
     kind-fits-is h =
         let kind = attributeKind (attributeNumber text a) in
         fits-by name kind (kind-known (attributeNumber text a) h) (p .form)

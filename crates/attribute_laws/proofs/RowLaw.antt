@@ -12,8 +12,8 @@ use borrow.Author.Tests.{lt-ltb}
 use Rattle.lists.specs.Lists.{firstWhere}
 use Rattle.scan.specs.Bytes.{among}
 use Rattle.grammar.proofs.TableTest.{both, both-left, both-right, implies, implied, upTo, up-to, true-T}
-use Rattle.optable.specs.Table.{Op, ops, rowOf, rowsFrom, rowAt, noRow, noAttribute, attributes, attributeNames}
-use Rattle.optable.specs.Names.{same, placeIn}
+use Rattle.optable.specs.Table.{OpRow, ops, rowOf, rowsFrom, rowAt, noRow, noAttribute, attributes, attributeNames}
+use Rattle.optable.specs.Names.{same, namePlace}
 use Rattle.optable.specs.Find.{slotIn}
 use Rattle.optable.specs.declared.Row.{Row}
 use Rattle.attributes.specs.Attributes.{neededAt}
@@ -27,16 +27,16 @@ allowedTest row names k = sameBool (ltb k noAttribute && ltb (slotIn row k) 3) (
 abbrev neededTest : Row → List ℕ → ℕ → Bool
 neededTest row required s = implies (ltb s (length required)) (eqb (neededAt row s) (getD required s 0))
 
-abbrev rowTest : Op → Bool
+abbrev rowTest : OpRow → Bool
 rowTest o =
     let row = rowOf 0 o in
     both (upTo 16 (allowedTest row (o .required ++ o .optional))) (both (ltb (length (o .required)) 4) (upTo 4 (neededTest row (o .required))))
 
-abbrev eachOp : List Op → Bool
+abbrev eachOp : List OpRow → Bool
 eachOp [] = true
 eachOp (o ∷ os) = both (rowTest o) (eachOp os)
 
-row-names : (at : ℕ) (o : Op) → T (rowTest o) → RowNames (rowOf at o) (o .required) (o .optional)
+row-names : (at : ℕ) (o : OpRow) → T (rowTest o) → RowNames (rowOf at o) (o .required) (o .optional)
 unfolding slotIn neededAt attributes
 row-names at o t =
     let names = o .required ++ o .optional in
@@ -53,16 +53,16 @@ row-names at o t =
           (true-T _ (lt-ltb s (length (o .required)) h)));
     }
 
-rows-named : (at : ℕ) (os : List Op) (i : ℕ) (d : Op) → T (eachOp os) → i < length os → RowNames (getD (rowsFrom at os) i noRow) (getD os i d .required) (getD os i d .optional)
+rows-named : (at : ℕ) (os : List OpRow) (i : ℕ) (d : OpRow) → T (eachOp os) → i < length os → RowNames (getD (rowsFrom at os) i noRow) (getD os i d .required) (getD os i d .optional)
 rows-named at [] i d t h = absurd (not-suc-le-zero h)
 rows-named at (o ∷ os) zero d t h = row-names at o (both-left (rowTest o) (eachOp os) t)
 rows-named at (o ∷ os) (suc i) d t h = rows-named (at + length (o .name)) os i d (both-right (rowTest o) (eachOp os) t) (le-of-suc-le-suc h)
 
 tested : T (eachOp ops)
-unfolding ops slotIn neededAt attributes attributeNames placeIn same firstWhere sameBool
+unfolding ops slotIn neededAt attributes attributeNames namePlace same firstWhere sameBool
 tested = tt
 
 -- row i of the op table and the attributes of op i
-pub row-named : (i : ℕ) (d : Op) → i < length ops → RowNames (rowAt i) (getD ops i d .required) (getD ops i d .optional)
+pub row-named : (i : ℕ) (d : OpRow) → i < length ops → RowNames (rowAt i) (getD ops i d .required) (getD ops i d .optional)
 unfolding rowAt
 row-named i d h = rows-named 0 ops i d tested h

@@ -18,11 +18,11 @@ use Rattle.program.specs.declared.Parts.{Parts}
 use Rattle.program.specs.Parts.{noParts, partsFrom, opAt}
 use Rattle.program.specs.Program.{programOf}
 use Rattle.places.specs.Places.{attributeName, countOf, placeOf}
-use Rattle.optable.specs.Table.{Op, ops, rowAt, comparisonDirection, compareType, value}
+use Rattle.optable.specs.Table.{OpRow, ops, rowAt, comparisonDirection, compareType, value}
 use Rattle.attribute.specs.Attribute.{formAt}
-use Rattle.attributes.specs.Attributes.{stands, attributesFit, nameOf, numbersBy, numbersOf, denseType}
+use Rattle.attributes.specs.Attributes.{stands, attributesFit, nameOf, numbersBy, attributeNumbers, denseType}
 use Rattle.source.specs.Source.{AttributeText, OpText, opFrom, functionOf}
-use Rattle.verifier.specs.AttributeRules.{firstToken, someOf, noAttributeText, numbersWritten, numbersNamed, typeWritten, attributeWith, doubledAttribute, otherKind}
+use Rattle.verifier.specs.AttributeRules.{firstToken, someOf, noAttributeText, numbersWritten, numbersNamed, typeWritten, attributeWith, doubledAttribute, unlikeKind}
 use Rattle.verifier.specs.Reasons.{wrongAttribute, wrongDense}
 use Rattle.reading_laws.proofs.OpsLaw.{read-program}
 use Rattle.source_laws.specs.Listed.{PartListed}
@@ -82,7 +82,7 @@ module _ (text : List ℕ) (read : textRefusal text .number ≡ 0) where
         }
 
     -- its attributes fit row i of the op table where none of the reasons holds
-    pub alone-fit : (i : ℕ) (d : Op) → i < length ops → attributesFit text op (rowAt i) ≡
+    pub alone-fit : (i : ℕ) (d : OpRow) → i < length ops → attributesFit text op (rowAt i) ≡
         not (wrongAttribute text (getD ops i d .required) (getD ops i d .optional) (opFrom (readingsOf OpSymbol text at))) && not (wrongDense text (opFrom (readingsOf OpSymbol text at)))
     alone-fit i d h = attributes-fit text op attrs (alone-listed at) formed (rowAt i) (getD ops i d .required) (getD ops i d .optional) (row-named i d h)
 
@@ -120,22 +120,22 @@ module _ (text : List ℕ) (read : textRefusal text .number ≡ 0) where
         (subst (λ (n : ℕ). FormedAttribute text n (getD attrs-k j noAttributeText)) (sym e) (piece text op-k attrs-k (alone-listed (opPlace text k)) formed-k j l))
 
     -- the attributes fit row i of the op table where none of the reasons holds
-    pub op-attributes-fit : (e : OpText) (i : ℕ) (d : Op) → i < length ops → attributesFit text op-k (rowAt i) ≡
+    pub op-attributes-fit : (e : OpText) (i : ℕ) (d : OpRow) → i < length ops → attributesFit text op-k (rowAt i) ≡
         not (wrongAttribute text (getD ops i d .required) (getD ops i d .optional) (getD (functionOf text .ops) k e)) && not (wrongDense text (getD (functionOf text .ops) k e))
     op-attributes-fit e i d g =
         subst (λ (o : OpText). attributesFit text op-k (rowAt i) ≡ not (wrongAttribute text (getD ops i d .required) (getD ops i d .optional) o) && not (wrongDense text o))
         (sym (op-read text read k h e)) (alone-fit OpName (opPlace text k) alone-k i d g)
 
     -- and then the values by their names are those that the lists say
-    module _ (i : ℕ) (d : Op) (g : i < length ops) (fit : attributesFit text op-k (rowAt i) ≡ true) where
+    module _ (i : ℕ) (d : OpRow) (g : i < length ops) (fit : attributesFit text op-k (rowAt i) ≡ true) where
       abbrev found : (n : ℕ) → stands text op-k n ≡ true → Stood text op-k attrs-k (alone-listed (opPlace text k)) formed-k (rowAt i) (getD ops i d .required) (getD ops i d .optional) (row-named i d g) fit n
       found = stood text op-k attrs-k (alone-listed (opPlace text k)) formed-k (rowAt i) (getD ops i d .required) (getD ops i d .optional) (row-named i d g) fit
 
-      numbers-named : (n : ℕ) → wholes (numbersOf text op-k n) ≡ numbersNamed text n attrs-k
-      unfolding numbersOf
+      numbers-named : (n : ℕ) → wholes (attributeNumbers text op-k n) ≡ numbersNamed text n attrs-k
+      unfolding attributeNumbers
       numbers-named n = by-test (stands text op-k n) refl
         where
-          by-test : (b : Bool) → stands text op-k n ≡ b → wholes (numbersOf text op-k n) ≡ numbersNamed text n attrs-k
+          by-test : (b : Bool) → stands text op-k n ≡ b → wholes (attributeNumbers text op-k n) ≡ numbersNamed text n attrs-k
           by-test true e =
               let s = found n e in
               rw e
@@ -181,9 +181,9 @@ module _ (text : List ℕ) (read : textRefusal text .number ≡ 0) where
       some-reason true c = refl
       some-reason false c = refl
 
-      by-attributes : (l : List AttributeText) → n ≡ min (length l) 9 → eqb n 0 ≡ not (((false || doubledAttribute text l) || someOf (λ a. not false) l) || someOf (otherKind text) l)
+      by-attributes : (l : List AttributeText) → n ≡ min (length l) 9 → eqb n 0 ≡ not (((false || doubledAttribute text l) || someOf (λ a. not false) l) || someOf (unlikeKind text) l)
       by-attributes [] q = let z : n ≡ 0 = omega arith in rw z
-      by-attributes (a ∷ l) q = ne-eqb n 0 (λ z. omega arith) ∙ some-reason (doubledAttribute text (a ∷ l)) (someOf (otherKind text) (a ∷ l))
+      by-attributes (a ∷ l) q = ne-eqb n 0 (λ z. omega arith) ∙ some-reason (doubledAttribute text (a ∷ l)) (someOf (unlikeKind text) (a ∷ l))
 
   -- the return has no attribute where none is missing, doubled, foreign or of the wrong kind, none being its own
   pub return-attributes-fit : (k : ℕ) → k < programOf text .count → (e : OpText) →

@@ -12,7 +12,7 @@ use Rattle.lists.specs.Lists.{pick, All}
 use Rattle.scan.specs.Bytes.{among as amongRoles}
 use Rattle.text.specs.Lex.{tokenAt}
 use Rattle.text.specs.declared.Token.{Token}
-use Rattle.grammar.specs.Symbols.{END, NUMBER, RANGLE, COMMA, COLON, ARRAY, DENSE, DIALECT, AttributeName, SingleNumber, ListNumber, ChoiceKind, Choice, ElementLiteral, DenseOpen, DenseClose, DenseType, langle, rangle, comma, colon, equals, dialect, array, dense, i64, Value, Numbers, MoreNumbers, Dense, DenseItems, MoreItems, among, matches, leafKinds}
+use Rattle.grammar.specs.Symbols.{END, NUMBER, RANGLE, COMMA, COLON, ARRAY, DENSE, DIALECT, AttributeName, SingleNumber, ListNumber, ChoiceKind, Choice, ElementLiteral, DenseOpen, DenseClose, DenseType, langle, rangle, comma, colon, equals, dialect, array, dense, i64, Value, Numbers, MoreNumbers, Dense, DenseItems, MoreItems, amongSymbols, matches, leafKinds}
 use Rattle.grammar.proofs.TableTest.{true-T}
 use Rattle.grammar.proofs.Within.{member-passes}
 use Rattle.syntax.specs.Kinds.{markKind, tokenKind, kindOf}
@@ -40,16 +40,16 @@ only-kind r n k e m = go (eqb k n) refl (rw e at m)
     go false q m = absurd (not-both m refl)
 
 -- what holds of each symbol of a list
-of-each : (P : ℕ → Type 0) (set : List ℕ) → All P set → (r : ℕ) → among set r ≡ true → P r
+of-each : (P : ℕ → Type 0) (set : List ℕ) → All P set → (r : ℕ) → amongSymbols set r ≡ true → P r
 of-each P [] a r m = absurd (not-both m refl)
 of-each P (c ∷ cs) a r m = go (eqb r c) refl m (of-each P cs (a .1) r)
   where
-    go : (b : Bool) → eqb r c ≡ b → pick b true (among cs r) ≡ true → (among cs r ≡ true → P r) → P r
+    go : (b : Bool) → eqb r c ≡ b → pick b true (amongSymbols cs r) ≡ true → (amongSymbols cs r ≡ true → P r) → P r
     go true q m ih = subst P (sym (eqb-true r c q)) (a .0)
     go false q m ih = ih m
 
 -- a symbol that productions define is no token's role
-not-role : (r : ℕ) → among (Value ∷ Numbers ∷ MoreNumbers ∷ Dense ∷ []) r ≡ true → (k : ℕ) → matches r k ≡ false
+not-role : (r : ℕ) → amongSymbols (Value ∷ Numbers ∷ MoreNumbers ∷ Dense ∷ []) r ≡ true → (k : ℕ) → matches r k ≡ false
 unfolding matches leafKinds
 not-role r a k = no-T (matches r k) (member-passes (λ r. not (matches r k)) (Value ∷ Numbers ∷ MoreNumbers ∷ Dense ∷ []) r tt (true-T _ a))
 
@@ -58,11 +58,11 @@ not-role r a k = no-T (matches r k) (member-passes (λ r. not (matches r k)) (Va
 abbrev literals : List ℕ
 literals = ElementLiteral ∷ DenseOpen ∷ DenseClose ∷ comma ∷ Dense ∷ DenseItems ∷ MoreItems ∷ []
 
-not-close : (r : ℕ) → among literals r ≡ true → matches r RANGLE ≡ false
+not-close : (r : ℕ) → amongSymbols literals r ≡ true → matches r RANGLE ≡ false
 unfolding matches leafKinds
 not-close = of-each (λ r. matches r RANGLE ≡ false) literals (refl, (refl, (refl, (refl, (refl, (refl, (refl, tt)))))))
 
-not-last : (r : ℕ) → among literals r ≡ true → matches r END ≡ false
+not-last : (r : ℕ) → amongSymbols literals r ≡ true → matches r END ≡ false
 unfolding matches leafKinds
 not-last = of-each (λ r. matches r END ≡ false) literals (refl, (refl, (refl, (refl, (refl, (refl, (refl, tt)))))))
 
@@ -74,7 +74,7 @@ closes : (text : List ℕ) (t : Token) → kindOf text t ≡ RANGLE → endsLite
 unfolding endsLiteral
 closes text t e = rw (kind-told text t RANGLE e refl)
 
-within-literal : (text : List ℕ) (t : Token) (r : ℕ) → among literals r ≡ true → matches r (kindOf text t) ≡ true → endsLiteral (t .kind) ≡ false
+within-literal : (text : List ℕ) (t : Token) (r : ℕ) → amongSymbols literals r ≡ true → matches r (kindOf text t) ≡ true → endsLiteral (t .kind) ≡ false
 unfolding endsLiteral
 within-literal text t r a m = by-kind (eqb (t .kind) 62) (eqb (t .kind) 0) refl refl
   where
@@ -111,7 +111,7 @@ module _ (text : List ℕ) where
     follow : Follow (tokenAt text at .end) others
     lists : attributeFrom (upToName before 0 xs) ≡ withToken c (tokenAt text at .start) (attributeFrom (upToName c 0 others))
 
-  one : (s t c at before : ℕ) (xs : List Reading) → ((r : ℕ) → next s r ≡ pick (among (c ∷ []) r) t 16) → 0 < s → Inner c → run s (rolesOf xs) ≡ 0 → Follow at xs → One t c at before xs
+  one : (s t c at before : ℕ) (xs : List Reading) → ((r : ℕ) → next s r ≡ pick (amongSymbols (c ∷ []) r) t 16) → 0 < s → Inner c → run s (rolesOf xs) ≡ 0 → Follow at xs → One t c at before xs
   one s t c at before [] n h i e f = absurd (omega arith)
   one s t c at before (x ∷ xs) n h i e f = by-role (eqb (x .role) c) refl
     where
@@ -144,7 +144,7 @@ module _ (text : List ℕ) where
     inner : Inner r
     lists : (start type : ℕ) (ls : List ℕ) → withToken r start (denseText ls type) ≡ denseText (pick (amongRoles (DenseOpen ∷ ElementLiteral ∷ []) r) (start ∷ ls) ls) type
 
-  in-literal : (r : ℕ) → among literals r ≡ true → InLiteral r
+  in-literal : (r : ℕ) → amongSymbols literals r ≡ true → InLiteral r
   unfolding depthAfter
   in-literal = of-each InLiteral literals (
     record { inner = record { level = refl; name = refl }; lists = λ s t l. refl },
@@ -175,9 +175,9 @@ module _ (text : List ℕ) where
   literal left at before [] l e f = absurd (omega arith)
   literal zero at before (x ∷ xs) l e f = absurd (omega arith)
   literal (suc left) at before (x ∷ xs) l e f =
-      by-role (among literals (x .role)) (eqb (x .role) rangle) refl refl (λ q. literal left (tokenAt text at .end) (x .role) xs (omega arith) q (f .2))
+      by-role (amongSymbols literals (x .role)) (eqb (x .role) rangle) refl refl (λ q. literal left (tokenAt text at .end) (x .role) xs (omega arith) q (f .2))
     where
-      by-role : (b c : Bool) → among literals (x .role) ≡ b → eqb (x .role) rangle ≡ c → (run 9 (rolesOf xs) ≡ 0 → Literal left (tokenAt text at .end) (x .role) xs) →
+      by-role : (b c : Bool) → amongSymbols literals (x .role) ≡ b → eqb (x .role) rangle ≡ c → (run 9 (rolesOf xs) ≡ 0 → Literal left (tokenAt text at .end) (x .role) xs) →
           Literal (suc left) at before (x ∷ xs)
       by-role true c q r ih =
           let i = in-literal (x .role) q in
@@ -216,7 +216,7 @@ module _ (text : List ℕ) where
   first-literal zero at before (x ∷ xs) l e f = absurd (omega arith)
   first-literal (suc left) at before (x ∷ xs) l e f = by-role (eqb (x .role) ElementLiteral) (eqb (x .role) DenseOpen) (eqb (x .role) Dense) refl refl refl
     where
-      first : amongRoles (DenseOpen ∷ ElementLiteral ∷ []) (x .role) ≡ true → among literals (x .role) ≡ true → run 9 (rolesOf xs) ≡ 0 → FirstLiteral (suc left) at before (x ∷ xs)
+      first : amongRoles (DenseOpen ∷ ElementLiteral ∷ []) (x .role) ≡ true → amongSymbols literals (x .role) ≡ true → run 9 (rolesOf xs) ≡ 0 → FirstLiteral (suc left) at before (x ∷ xs)
       first q r w =
           let i = in-literal (x .role) r in
           let m = literal left (tokenAt text at .end) (x .role) xs (omega arith) w (f .2) in
@@ -246,9 +246,9 @@ module _ (text : List ℕ) where
   record InList (r : ℕ) : Type 0 where
     inner : Inner r
     lists : (start : ℕ) (a : AttributeText) → withToken r start a ≡ a
-    kind : (k : ℕ) → matches r k ≡ true → among (COLON ∷ COMMA ∷ []) k ≡ true
+    kind : (k : ℕ) → matches r k ≡ true → amongSymbols (COLON ∷ COMMA ∷ []) k ≡ true
 
-  in-list : (r : ℕ) → among (colon ∷ comma ∷ []) r ≡ true → InList r
+  in-list : (r : ℕ) → amongSymbols (colon ∷ comma ∷ []) r ≡ true → InList r
   unfolding depthAfter leafKinds
   in-list =
       of-each InList (colon ∷ comma ∷ []) (
@@ -263,11 +263,11 @@ module _ (text : List ℕ) where
   unfolding depthAfter leafKinds
   next-numbers n ih at before [] l e f = absurd (omega arith)
   next-numbers n ih at before (x ∷ xs) l e f =
-      by-role (among (Numbers ∷ MoreNumbers ∷ []) (x .role)) (among (colon ∷ comma ∷ []) (x .role)) (eqb (x .role) rangle) refl refl refl
+      by-role (amongSymbols (Numbers ∷ MoreNumbers ∷ []) (x .role)) (amongSymbols (colon ∷ comma ∷ []) (x .role)) (eqb (x .role) rangle) refl refl refl
     where
-      by-role : (b c d : Bool) → among (Numbers ∷ MoreNumbers ∷ []) (x .role) ≡ b → among (colon ∷ comma ∷ []) (x .role) ≡ c → eqb (x .role) rangle ≡ d → Numbered at before (x ∷ xs)
+      by-role : (b c d : Bool) → amongSymbols (Numbers ∷ MoreNumbers ∷ []) (x .role) ≡ b → amongSymbols (colon ∷ comma ∷ []) (x .role) ≡ c → eqb (x .role) rangle ≡ d → Numbered at before (x ∷ xs)
       by-role true c d q r w =
-          absurd (not-both (f .1) (not-role (x .role) (of-each (λ r. among (Value ∷ Numbers ∷ MoreNumbers ∷ Dense ∷ []) r ≡ true) (Numbers ∷ MoreNumbers ∷ []) (refl, (refl, tt)) (x .role) q) _))
+          absurd (not-both (f .1) (not-role (x .role) (of-each (λ r. amongSymbols (Value ∷ Numbers ∷ MoreNumbers ∷ Dense ∷ []) r ≡ true) (Numbers ∷ MoreNumbers ∷ []) (refl, (refl, tt)) (x .role) q) _))
       by-role false true d q r w =
           let i = in-list (x .role) r in
           let a = one 6 5 ListNumber (tokenAt text at .end) (x .role) xs (λ r. refl) (omega arith) (record { level = refl; name = refl }) (next-run 5 6 (x .role) (rolesOf xs) (rw (q, r)) e) (f .2) in

@@ -16,11 +16,11 @@ use Rattle.shape.specs.Index.{at}
 use Rattle.text.specs.Lex.{tokenAt}
 use Rattle.shape.specs.Whole.{patternOf}
 use Rattle.shape.proofs.WholeLaw.{number-pattern}
-use Rattle.types.specs.Numbers.{numberOf, isAttributeNumber}
-use Rattle.grammar.specs.Symbols.{COMMA, COLON, among}
+use Rattle.types.specs.Numbers.{decimalNumber, isAttributeNumber}
+use Rattle.grammar.specs.Symbols.{COMMA, COLON, amongSymbols}
 use Rattle.dimrules.specs.Whole as whole
-use Rattle.optable.specs.Table.{Numbers as NumberList, Number}
-use Rattle.attribute.specs.Attribute.{tokenAfter, valueAt, formAt, numberAt, numbersAt, choiceAt}
+use Rattle.optable.specs.Table.{NumbersKind as NumberList, Number}
+use Rattle.attribute.specs.Attribute.{tokenAfter, valueToken, formAt, numberAt, numbersAt, choiceAt}
 use Rattle.attribute.specs.declared.Numbers.{Numbers as ReadNumbers}
 use Rattle.attributes.specs.Attributes.{numbersBy}
 use Rattle.source.specs.Source.{AttributeText}
@@ -55,37 +55,37 @@ wholes-filled vs n =
 
 module _ (text : List ℕ) where
   -- the numbers of a list by its tokens are one list
-  same-starts : {mark at : ℕ} {starts mine : List ℕ} → among (COLON ∷ COMMA ∷ []) mark ≡ true → Listed text mark at starts → Marked text at mine → starts ≡ mine
+  same-starts : {mark at : ℕ} {starts mine : List ℕ} → amongSymbols (COLON ∷ COMMA ∷ []) mark ≡ true → Listed text mark at starts → Marked text at mine → starts ≡ mine
   same-starts m (lists.closed e) (forms.closed f) = refl
   same-starts m (lists.closed e) (forms.number f n) = absurd (not-both (rw e at f) refl)
   same-starts m (lists.number e k f l) (forms.closed g) = absurd (not-both (rw (sym e ∙ g) at m) refl)
   same-starts m (lists.number {at = at} {starts = ms} e k f l) (forms.number g n) = ap (λ (l : List ℕ). tokenAt text (tokenAt text at .end) .start ∷ l) (same-starts refl l n)
 
-  all-whole : {mark at : ℕ} {starts : List ℕ} → Listed text mark at starts → map whole.numberOf (map (written text) starts) ≡ map (numberOf text) starts
+  all-whole : {mark at : ℕ} {starts : List ℕ} → Listed text mark at starts → map whole.numberOf (map (written text) starts) ≡ map (decimalNumber text) starts
   all-whole (lists.closed e) = refl
   all-whole (lists.number {at = at} {starts = ms} e k f l) =
       let s = tokenAt text (tokenAt text at .end) .start in
-      ap {B = List ℤ} (λ (z : ℤ). z ∷ map whole.numberOf (map (written text) ms)) (pattern-whole (numberOf text s) f) ∙ ap {B = List ℤ} (λ (l : List ℤ). numberOf text s ∷ l) (all-whole l)
+      ap {B = List ℤ} (λ (z : ℤ). z ∷ map whole.numberOf (map (written text) ms)) (pattern-whole (decimalNumber text s) f) ∙ ap {B = List ℤ} (λ (l : List ℤ). decimalNumber text s ∷ l) (all-whole l)
 
   -- ---- an attribute of one of the four forms
 
   module _ (name : ℕ) (single : NumberStands text name) (six : ListStands text name)
       (list-read : (form : formAt text name ≡ NumberList) → numbersAt text name ≡ filled (map (written text) (six form .starts)) (6 - length (six form .starts))) where
     abbrev numbersIn : AttributeText → List ℤ
-    numbersIn v = map (numberOf text) (v .single ++ v .listed)
+    numbersIn v = map (decimalNumber text) (v .single ++ v .listed)
 
-    one-number : (k : formAt text name ≡ Number) → wholes (numbersBy text name Number) ≡ numberOf text (valueAt text name .start) ∷ []
+    one-number : (k : formAt text name ≡ Number) → wholes (numbersBy text name Number) ≡ decimalNumber text (valueToken text name .start) ∷ []
     unfolding numbersBy numberAt
     one-number k =
-        let s = valueAt text name .start in
-        ap {B = List ℤ} (λ (w : ℕ). whole.numberOf w ∷ []) (pattern-written text s (single k)) ∙ ap {B = List ℤ} (λ (z : ℤ). z ∷ []) (pattern-whole (numberOf text s) (single k))
+        let s = valueToken text name .start in
+        ap {B = List ℤ} (λ (w : ℕ). whole.numberOf w ∷ []) (pattern-written text s (single k)) ∙ ap {B = List ℤ} (λ (z : ℤ). z ∷ []) (pattern-whole (decimalNumber text s) (single k))
 
-    listed-numbers : (k : formAt text name ≡ NumberList) {starts : List ℕ} → Marked text (tokenAfter 4 text name .end) starts → wholes (numbersBy text name NumberList) ≡ map (numberOf text) starts
+    listed-numbers : (k : formAt text name ≡ NumberList) {starts : List ℕ} → Marked text (tokenAfter 4 text name .end) starts → wholes (numbersBy text name NumberList) ≡ map (decimalNumber text) starts
     unfolding numbersBy
     listed-numbers k m =
         let s = six k in
         ap (λ (ns : ReadNumbers). wholes (record { count = ns .count; list = ns .list })) (list-read k)
-        ∙ (length-written (s .starts) ∙ (all-whole (s .listed) ∙ ap (map (numberOf text)) (same-starts refl (s .listed) m)))
+        ∙ (length-written (s .starts) ∙ (all-whole (s .listed) ∙ ap (map (decimalNumber text)) (same-starts refl (s .listed) m)))
       where
         length-written : (starts : List ℕ) → wholes (record { count = length (map (written text) starts); list = map (written text) starts ++ replicate (6 - length starts) 0 }) ≡ map whole.numberOf (map (written text) starts)
         length-written starts = wholes-filled (map (written text) starts) (6 - length starts)

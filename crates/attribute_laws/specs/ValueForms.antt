@@ -7,7 +7,7 @@ use mathlib.Core.Bool.{true}
 use mathlib.Core.List.{List, [], _∷_}
 use lib.ListN.{length}
 use Rattle.text.specs.Lex.{tokenAt}
-use Rattle.grammar.specs.Symbols.{NUMBER, ARRAY, DENSE, DIALECT, RANGLE, COMMA, COLON, among}
+use Rattle.grammar.specs.Symbols.{NUMBER, ARRAY, DENSE, DIALECT, RANGLE, COMMA, COLON, amongSymbols}
 use Rattle.syntax.specs.Kinds.{kindOf}
 use Rattle.attribute.specs.Attribute.{tokenAfter, closeFrom}
 use Rattle.source.specs.Source.{AttributeText}
@@ -28,7 +28,7 @@ choiceText kind choice = record { names = []; single = []; listed = []; kinds = 
 -- from a byte on `>`, or `:` or `,`, a number, and so on: where the numbers start
 pub data Marked (text : List ℕ) : ℕ → List ℕ → Type 0 where
   closed : {at : ℕ} → kindOf text (tokenAt text at) ≡ RANGLE → Marked text at []
-  number : {at : ℕ} {starts : List ℕ} → among (COLON ∷ COMMA ∷ []) (kindOf text (tokenAt text at)) ≡ true → Marked text (tokenAt text (tokenAt text at .end) .end) starts →
+  number : {at : ℕ} {starts : List ℕ} → amongSymbols (COLON ∷ COMMA ∷ []) (kindOf text (tokenAt text at)) ≡ true → Marked text (tokenAt text (tokenAt text at .end) .end) starts →
       Marked text at (tokenAt text (tokenAt text at .end) .start ∷ starts)
 
 -- where the type of a dense value starts

@@ -14,9 +14,9 @@ use Rattle.lists.proofs.TabLaw.{length-tab, getD-tab}
 use Rattle.lists.proofs.SearchLaw.{Passed, passed-none, passed-next, passed-here, passed-end}
 use Rattle.shape.specs.Dims.{Sized}
 use Rattle.text.specs.Lex.{tokenAt}
-use Rattle.optable.specs.Table.{Numbers as NumberList, Number, attributeKind}
+use Rattle.optable.specs.Table.{NumbersKind as NumberList, Number, attributeKind}
 use Rattle.optable.specs.declared.Row.{Row}
-use Rattle.attribute.specs.Attribute.{tokenAfter, patternAt, noNumbers, withNumber, goesOn, numbersFrom, numbersAt, denseAt}
+use Rattle.attribute.specs.Attribute.{tokenAfter, patternAt, noneRead, withNumber, goesOn, numbersFrom, numbersAt, denseTokens}
 use Rattle.attribute.specs.declared.Numbers.{Numbers as Listed}
 use Rattle.dimrules.specs.Count.{firstFailing, everywhere}
 use Rattle.dimrules.proofs.CountLaw.{holds-at}
@@ -26,7 +26,7 @@ use Rattle.dimrules.specs.declared.TensorType.{TensorType}
 use Rattle.program.specs.declared.Parts.{Parts}
 use Rattle.places.specs.Places.{attributeName, countOf, blankType, typeIn}
 use Rattle.places.proofs.TypeInLaw.{type-in-sized, type-in-six}
-use Rattle.attributes.specs.Attributes.{attributesOf, attributeOf, standsAt, stands, attributeFits, neededAt, attributesFit, nameOf, numbersBy, numbersOf, denseType}
+use Rattle.attributes.specs.Attributes.{attributesOf, attributeOf, standsAt, stands, attributeFits, neededAt, attributesFit, nameOf, numbersBy, attributeNumbers, denseType}
 
 -- at most eight attributes are told apart
 pub attributes-most : (op : Parts) → attributesOf op ≤ 8
@@ -107,19 +107,19 @@ from-read (suc left) ns text at h =
     (λ e. from-read left ms text (next .end) (with-read ns (patternAt text (next .start)) h)) h
 
 at-read : (text : List ℕ) (name : ℕ) → Read (numbersAt text name)
-unfolding numbersAt noNumbers
-at-read text name = from-read 6 noNumbers text (tokenAfter 4 text name .end) none-held
+unfolding numbersAt noneRead
+at-read text name = from-read 6 noneRead text (tokenAfter 4 text name .end) none-held
 
-numbers-given : (text : List ℕ) (op : Parts) (k : ℕ) → Given (numbersOf text op k)
-unfolding numbersOf numbersBy
+numbers-given : (text : List ℕ) (op : Parts) (k : ℕ) → Given (attributeNumbers text op k)
+unfolding attributeNumbers numbersBy
 numbers-given text op k =
     let name = nameOf text op k in
     pick-given (stands text op k) _ none (pick-given (eqb (attributeKind k) NumberList) _ _ (at-read text name) (pick-given (eqb (attributeKind k) Number) _ none (omega arith, refl) none-held)) none-held
 
-pub numbers-few : (text : List ℕ) (op : Parts) (k : ℕ) → numbersOf text op k .count ≤ 6
+pub numbers-few : (text : List ℕ) (op : Parts) (k : ℕ) → attributeNumbers text op k .count ≤ 6
 numbers-few text op k = numbers-given text op k .0
 
-pub numbers-six : (text : List ℕ) (op : Parts) (k : ℕ) → length (numbersOf text op k .list) ≡ 6
+pub numbers-six : (text : List ℕ) (op : Parts) (k : ℕ) → length (attributeNumbers text op k .list) ≡ 6
 numbers-six text op k = numbers-given text op k .1
 
 -- the type of a dense value is within sizes 1 and 2 of 01, and has six dimensions in its array
@@ -133,7 +133,7 @@ pick-within false x y p q = q
 dense-within : (text : List ℕ) (op : Parts) (k : ℕ) → Within (denseType text op k)
 unfolding denseType
 dense-within text op k =
-    let at = denseAt text (nameOf text op k) .ty in
+    let at = denseTokens text (nameOf text op k) .ty in
     pick-within (stands text op k) (typeIn text at) blankType (type-in-sized text at, type-in-six text at) (record { rank = omega arith; volume = omega arith }, refl)
 
 pub dense-type-sized : (text : List ℕ) (op : Parts) (k : ℕ) → Sized (denseType text op k .shape)

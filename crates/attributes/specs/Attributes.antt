@@ -9,10 +9,10 @@ use lib.Dec.{ltb, eqb}
 use Rattle.lists.specs.Lists.{pick, tab, firstWhere}
 use Rattle.shape.specs.Dims.{dimsOf}
 use Rattle.text.specs.Lex.{tokenAt}
-use Rattle.optable.specs.Table.{Numbers as NumberList, Number, Dense, Direction, CompareType, noAttribute, noChoice, attributeKind, choiceKind}
+use Rattle.optable.specs.Table.{NumbersKind as NumberList, Number, DenseKind, Direction, CompareType, noAttribute, noChoice, attributeKind, choiceKind}
 use Rattle.optable.specs.Find.{findAttribute, slotIn}
 use Rattle.optable.specs.declared.Row.{Row}
-use Rattle.attribute.specs.Attribute.{formAt, numberAt, numbersAt, choiceAt, denseAt}
+use Rattle.attribute.specs.Attribute.{formAt, numberAt, numbersAt, choiceAt, denseTokens}
 use Rattle.dense.specs.Dense.{denseValue}
 use Rattle.dimrules.specs.Count.{everywhere}
 use Rattle.dimrules.specs.Dims.{noNumbers}
@@ -44,7 +44,7 @@ choiceFits text name kind = eqb (choiceKind (choiceAt text name .choice)) kind
 -- "a dense value of other sizes, kind or range than its type"
 unfoldable pub denseFits : List ℕ → ℕ → Bool
 denseFits text name =
-    let c = denseAt text name in
+    let c = denseTokens text name in
     let t = typeIn text (c .ty) in
     denseValue (t .element) (dimsOf (t .shape)) text (c .literal) .ok
 
@@ -52,7 +52,7 @@ denseFits text name =
 unfoldable pub kindFits : List ℕ → ℕ → ℕ → Bool
 kindFits text name kind =
     eqb (formAt text name) kind
-    && pick (eqb kind Dense) (denseFits text name) (pick (eqb kind Direction) (choiceFits text name kind) (pick (eqb kind CompareType) (choiceFits text name kind) true))
+    && pick (eqb kind DenseKind) (denseFits text name) (pick (eqb kind Direction) (choiceFits text name kind) (pick (eqb kind CompareType) (choiceFits text name kind) true))
 
 -- the three columns of a row for its attributes
 abbrev pub columns : Row → List ℕ
@@ -88,8 +88,8 @@ numbersBy text name kind =
     (pick (eqb kind Number) (record { count = 1; list = set (replicate 6 0) 0 (numberAt text name) }) noNumbers)
 
 -- the numbers of attribute k; none where it does not stand
-unfoldable pub numbersOf : List ℕ → Parts → ℕ → Numbers
-numbersOf text op k = pick (stands text op k) (numbersBy text (nameOf text op k) (attributeKind k)) noNumbers
+unfoldable pub attributeNumbers : List ℕ → Parts → ℕ → Numbers
+attributeNumbers text op k = pick (stands text op k) (numbersBy text (nameOf text op k) (attributeKind k)) noNumbers
 
 -- the choice of attribute k; no choice where it does not stand
 unfoldable pub choiceOf : List ℕ → Parts → ℕ → ℕ
@@ -97,4 +97,4 @@ choiceOf text op k = pick (stands text op k) (choiceAt text (nameOf text op k) .
 
 -- the type written after the dense value of attribute k; tensor<i1> where it does not stand
 unfoldable pub denseType : List ℕ → Parts → ℕ → TensorType
-denseType text op k = pick (stands text op k) (typeIn text (denseAt text (nameOf text op k) .ty)) blankType
+denseType text op k = pick (stands text op k) (typeIn text (denseTokens text (nameOf text op k) .ty)) blankType

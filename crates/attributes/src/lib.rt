@@ -26,7 +26,7 @@ use text::token_at;
 ghost use mathlib.Core.Path.{_≡_};
 ghost use Prim.Native.Nat.{_<_};
 ghost use Rattle.dimrules.specs.Count.{firstFailing};
-ghost use Rattle.attributes.specs.Attributes.{attributesOf, attributeOf, standsAt, stands as «stands-in», choiceFits, denseFits, kindFits, attributeFits, neededAt, attributesFit, nameOf, numbersBy, numbersOf, choiceOf, denseType};
+ghost use Rattle.attributes.specs.Attributes.{attributesOf, attributeOf, standsAt, stands as «stands-in», choiceFits, denseFits, kindFits, attributeFits, neededAt, attributesFit, nameOf, numbersBy, attributeNumbers, choiceOf, denseType};
 
 // The columns of a row for its attributes.
 const COLUMNS: usize = 3;
@@ -211,7 +211,7 @@ fn numbers_by(text: &[u8], name: usize, kind: usize) -> Numbers
 
 // The numbers of attribute k; none where it does not stand.
 pub fn numbers_of(text: &[u8], op: Parts, k: usize) -> Numbers
-    ensures { λ r. ⌜ r ≡ numbersOf (now (text .entry)) op k ⌝ }
+    ensures { λ r. ⌜ r ≡ attributeNumbers (now (text .entry)) op k ⌝ }
 {
     if stands(text, op, k) {
         return numbers_by(text, name_of(text, op, k), attribute_kind(k));

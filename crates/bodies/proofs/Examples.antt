@@ -8,19 +8,19 @@ use Prim.Native.String.{String}
 use Rattle.lists.specs.Lists.{firstWhere}
 use Rattle.scan.specs.Ascii.{ascii}
 use Rattle.scan.specs.Bytes.{isLetter, isDigit, isSpace, isSigil, isSign, inRun, runFrom, runEnd, startsWith, inComment, skipFrom, skipEnd}
-use Rattle.scan.specs.TypeText.{byteEnd, wordEnd, digitsEnd, sizeNext, shapeFrom, shapeEnd, complexEnd}
+use Rattle.scan.specs.TypeText.{byteEnd, wordEnd, digitsEnd, sizeNext, shapeEndFrom, shapeEnd, complexEnd}
 use Rattle.scan.specs.Quantized.{signEnd, integerEnd, fractionEnd, scientificEnd, floatEnd, colonEnd, parameterEnd, moreEnd, parametersEnd, storageEnd, quantizedEnd}
 use Rattle.scan.specs.TensorText.{elementEnd, typeClose}
 use Rattle.text.specs.Lex.{markToken, nameEnd, nameToken, signToken, quoteToken, plainWord, tensorToken, wordToken, lexeme, tokenAt}
 use Rattle.text.specs.Names.{wordIs, sameBytes, nameBytes, sameName}
-use Rattle.types.specs.Tensors.{widthNamed, elementNamed, dimensionsFrom, countOf as countOfByte, allFit, sizePassed, typed, foreign, typeAfter, typeOf}
+use Rattle.types.specs.Tensors.{widthNamed, elementNamed, dimensionsFrom, byteCount as countOfByte, allFit, typeSizePassed, typed, foreign, typeAfter, typeOf}
 use Rattle.grammar.specs.Symbols.{leafKinds, matches}
 use Rattle.grammar.specs.Grammar.{grammar}
 use Rattle.grammar.specs.Machine.{cell, step}
 use Rattle.syntax.specs.Kinds.{markKind, nameKind, wordKind, quotedKind, tokenKind, kindOf}
 use Rattle.syntax.specs.Readings.{readingsFrom, readingsOf}
 use Rattle.optable.specs.Table.{ops, opNames, opNamed, attributes, attributeNames, rowAt}
-use Rattle.optable.specs.Find.{same, placeIn, findOp}
+use Rattle.optable.specs.Find.{same, namePlace, findOp}
 use Rattle.program.specs.Parts.{partOf, noParts, addedTo, noted, depthAfter, partsFrom, partsOf, partsAt, opAt, bodyAt}
 use Rattle.scope.specs.Scope.{nameAt, sameAt}
 use Rattle.dimrules.specs.Count.{firstFailing, everywhere}
@@ -62,5 +62,5 @@ wider = body "%c = \"stablehlo.add\"(%a, %b) : (tensor<2xi8>, tensor<2xi8>) -> t
 
 examples : (map (λ t. bodyFits t 0) (straight ∷ swapped ∷ shifted ∷ unused ∷ doubled ∷ minus ∷ wider ∷ []) ≡ true ∷ true ∷ false ∷ false ∷ false ∷ false ∷ false ∷ [])
     × (map (λ t. bodyCounted (bodyAt t 0)) (shifted ∷ []) ≡ true ∷ []) × (bodyRow swapped 0 ≡ opNamed "xor")
-unfolding straight swapped shifted unused doubled minus wider innerOp hasCount bodyCounted opCounted rowNamed isReducer operandIs onBoth returnsIt asFirst oneType formed bodyFits bodyRow countOf placeOf typeIn typeOfPart sameElement sameShape sameType dimTest firstFailing everywhere firstWhere nameAt sameAt sameBytes nameBytes sameName ops opNames attributes attributeNames rowAt same placeIn findOp widthNamed elementNamed dimensionsFrom countOfByte allFit sizePassed typed foreign typeAfter typeOf partOf noParts addedTo noted depthAfter partsFrom partsOf partsAt opAt bodyAt readingsOf readingsFrom kindOf tokenKind markKind nameKind wordKind quotedKind wordIs grammar leafKinds matches cell step isLetter isDigit isSpace isSigil isSign inRun runFrom runEnd startsWith inComment skipFrom skipEnd byteEnd wordEnd digitsEnd sizeNext shapeFrom shapeEnd complexEnd signEnd integerEnd fractionEnd scientificEnd floatEnd colonEnd parameterEnd moreEnd parametersEnd storageEnd quantizedEnd elementEnd typeClose markToken nameEnd nameToken signToken quoteToken plainWord tensorToken wordToken lexeme tokenAt
+unfolding straight swapped shifted unused doubled minus wider innerOp hasCount bodyCounted opCounted rowNamed isReducer operandIs onBoth returnsIt asFirst oneType formed bodyFits bodyRow countOf placeOf typeIn typeOfPart sameElement sameShape sameType dimTest firstFailing everywhere firstWhere nameAt sameAt sameBytes nameBytes sameName ops opNames attributes attributeNames rowAt same namePlace findOp widthNamed elementNamed dimensionsFrom countOfByte allFit typeSizePassed typed foreign typeAfter typeOf partOf noParts addedTo noted depthAfter partsFrom partsOf partsAt opAt bodyAt readingsOf readingsFrom kindOf tokenKind markKind nameKind wordKind quotedKind wordIs grammar leafKinds matches cell step isLetter isDigit isSpace isSigil isSign inRun runFrom runEnd startsWith inComment skipFrom skipEnd byteEnd wordEnd digitsEnd sizeNext shapeEndFrom shapeEnd complexEnd signEnd integerEnd fractionEnd scientificEnd floatEnd colonEnd parameterEnd moreEnd parametersEnd storageEnd quantizedEnd elementEnd typeClose markToken nameEnd nameToken signToken quoteToken plainWord tensorToken wordToken lexeme tokenAt
 examples = (refl, refl, refl)

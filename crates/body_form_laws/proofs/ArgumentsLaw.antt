@@ -5,7 +5,7 @@ use Prim.Native.Nat.{ℕ}
 use native.Mathlib.Omega.{arith}
 use lib.Dec.{T, eqb}
 use Rattle.scan.specs.Bytes.{among as oneOf}
-use Rattle.grammar.specs.Symbols.{ArgumentName, ArgumentType, BodyClose, Body, BodyOps, NamedBodyOps, among}
+use Rattle.grammar.specs.Symbols.{ArgumentName, ArgumentType, BodyClose, Body, BodyOps, NamedBodyOps, amongSymbols}
 use Rattle.grammar.specs.Grammar.{Production, grammar}
 use Rattle.grammar.specs.Derivation.{_∈_}
 use Rattle.grammar.specs.Leaves.{Yields}
@@ -32,7 +32,7 @@ body-closed p m = rule-passes (closedIn wholeBody) m tt
 of-part : (roles : List ℕ) (k : ℕ) → T (allPass (λ r. sameBool (oneOf roles r) (eqb (partOf r) k)) wholeBody) → (xs : List Reading) → T (allIn wholeBody (rolesOf xs)) → OfPart roles k xs
 of-part roles k f [] t = tt
 of-part roles k f (x ∷ xs) t =
-    let a = among wholeBody (x .role) in
+    let a = amongSymbols wholeBody (x .role) in
     let b = allIn wholeBody (rolesOf xs) in
     (same-equal (oneOf roles (x .role)) (eqb (partOf (x .role)) k) (member-passes (λ r. sameBool (oneOf roles r) (eqb (partOf r) k)) wholeBody (x .role) f (both-left a b t)), of-part roles k f xs (both-right a b t))
 

@@ -7,7 +7,7 @@ use Prim.Native.Nat.{ℕ}
 use native.Mathlib.Omega.{arith}
 use lib.Dec.{T, eqb, ltb}
 use Rattle.lists.specs.Lists.{pick}
-use Rattle.grammar.specs.Symbols.{ResultName, OpRest, BodyLabel, ArgumentName, ArgumentType, BodyOpName, BodyReturn, lparen, rparen, comma, colon, equals, MoreResults, Arguments, MoreArguments, among}
+use Rattle.grammar.specs.Symbols.{ResultName, OpRest, BodyLabel, ArgumentName, ArgumentType, BodyOpName, BodyReturn, lparen, rparen, comma, colon, equals, MoreResults, Arguments, MoreArguments, amongSymbols}
 use Rattle.grammar.specs.Grammar.{Production, grammar}
 use Rattle.grammar.specs.Derivation.{_∈_}
 use Rattle.grammar.specs.Leaves.{Yields}
@@ -100,9 +100,9 @@ one-piece role t (x ∷ xs) zs o u =
     let f : begins role (x .role) ≡ true = ap (λ (n : ℕ). begins role n) h ∙ o .opens role t in
     let q : T (quiet begins 0 (x .role) (depthAfter 0 (x .role)) (rolesOf xs)) =
     subst (λ (n : ℕ). T (quiet begins 0 n (depthAfter 0 n) (rolesOf xs))) (sym h) (subst (λ (l : List ℕ). T (quiet begins 0 (o .head) (depthAfter 0 (o .head)) l)) (sym r) (o .goes)) in
-    let v : T (outside bodySet (depthAfter 0 (x .role)) (rolesOf xs)) = both-right (or (ltb 0 0) (among bodySet (x .role))) (outside bodySet (depthAfter 0 (x .role)) (rolesOf xs)) u in
+    let v : T (outside bodySet (depthAfter 0 (x .role)) (rolesOf xs)) = both-right (or (ltb 0 0) (amongSymbols bodySet (x .role))) (outside bodySet (depthAfter 0 (x .role)) (rolesOf xs)) u in
     let g : T (quiet begins 1 (x .role) (depthAfter 1 (x .role)) (rolesOf xs)) =
-    subst (λ (d : ℕ). T (quiet begins 1 (x .role) d (rolesOf xs))) (sym (deeper bodySet tt 0 (x .role) (both-left (or (ltb 0 0) (among bodySet (x .role))) (outside bodySet (depthAfter 0 (x .role)) (rolesOf xs)) u)))
+    subst (λ (d : ℕ). T (quiet begins 1 (x .role) d (rolesOf xs))) (sym (deeper bodySet tt 0 (x .role) (both-left (or (ltb 0 0) (amongSymbols bodySet (x .role))) (outside bodySet (depthAfter 0 (x .role)) (rolesOf xs)) u)))
     (quiet-inside bodySet tt (x .role) (depthAfter 0 (x .role)) (rolesOf xs) v q) in
     let w : T (free (lastRole role (rolesOf (x ∷ xs)))) = subst (λ (l : List ℕ). T (free (lastRole role l))) (sym (o .whole)) (o .ends) in (
       cut-opened begins 1 role 1 x xs zs refl f g
@@ -120,7 +120,7 @@ colon-closed : (p : Production) → p ∈ grammar → T (closedAtEnd (colon ∷ 
 unfolding grammar
 colon-closed p m = rule-passes (closedAtEnd (colon ∷ [])) m tt
 
-arguments-within : (r : ℕ) → T (among argumentSet r) → T (within r)
+arguments-within : (r : ℕ) → T (amongSymbols argumentSet r) → T (within r)
 arguments-within r t = member-passes within argumentSet r tt t
 
 module _ (head : List Reading) (y : Yields (BodyLabel ∷ lparen ∷ Arguments ∷ rparen ∷ colon ∷ []) (rolesOf head)) where

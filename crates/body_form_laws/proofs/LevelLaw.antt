@@ -10,7 +10,7 @@ use lib.Dec.{T, eqb, eqb→eq, ltb}
 use borrow.Author.Tests.{eqb-true, ne-eqb}
 use Rattle.lists.specs.Lists.{pick}
 use Rattle.scan.specs.Bytes.{among as oneOf}
-use Rattle.grammar.specs.Symbols.{BodyOpen, BodyClose, among}
+use Rattle.grammar.specs.Symbols.{BodyOpen, BodyClose, amongSymbols}
 use Rattle.grammar.proofs.TableTest.{both-left, both-right, both-make, or}
 use Rattle.syntax.specs.Readings.{Reading}
 use Rattle.syntax.specs.Roles.{rolesOf}
@@ -42,23 +42,23 @@ deeper-case (suc d) false true f = omega arith
 deeper-case d false false f = refl
 
 -- among the roles outside further bodies none closes one
-module _ (set : List ℕ) (none : T (not (among set BodyClose))) where
-  no-close : (r : ℕ) → T (among set r) → eqb r BodyClose ≡ false
+module _ (set : List ℕ) (none : T (not (amongSymbols set BodyClose))) where
+  no-close : (r : ℕ) → T (amongSymbols set r) → eqb r BodyClose ≡ false
   no-close r t = go (eqb r BodyClose) refl
     where
       go : (b : Bool) → eqb r BodyClose ≡ b → b ≡ false
-      go true q = absurd (subst T (not-T (among set BodyClose) none) (subst (λ (n : ℕ). T (among set n)) (eqb-true r BodyClose q) t))
+      go true q = absurd (subst T (not-T (amongSymbols set BodyClose) none) (subst (λ (n : ℕ). T (amongSymbols set n)) (eqb-true r BodyClose q) t))
       go false q = refl
 
-  pub deeper : (d r : ℕ) → T (or (ltb 0 d) (among set r)) → depthAfter (suc d) r ≡ suc (depthAfter d r)
+  pub deeper : (d r : ℕ) → T (or (ltb 0 d) (amongSymbols set r)) → depthAfter (suc d) r ≡ suc (depthAfter d r)
   unfolding depthAfter
-  deeper d r t = deeper-case d (eqb r BodyOpen) (eqb r BodyClose) (λ e. no-close r (subst (λ (n : ℕ). T (or (ltb 0 n) (among set r))) e t))
+  deeper d r t = deeper-case d (eqb r BodyOpen) (eqb r BodyClose) (λ e. no-close r (subst (λ (n : ℕ). T (or (ltb 0 n) (amongSymbols set r))) e t))
 
   -- the body is still open after them
   pub through-inside : (d : ℕ) (ls : List ℕ) → T (outside set d ls) → depthThrough (suc d) ls ≡ 1
   through-inside d [] t = ap suc (eqb→eq d 0 t)
   through-inside d (r ∷ rs) t =
-      let a = or (ltb 0 d) (among set r) in
+      let a = or (ltb 0 d) (amongSymbols set r) in
       let b = outside set (depthAfter d r) rs in
       ap (λ (n : ℕ). depthThrough n rs) (deeper d r (both-left a b t)) ∙ through-inside (depthAfter d r) rs (both-right a b t)
 
@@ -66,7 +66,7 @@ module _ (set : List ℕ) (none : T (not (among set BodyClose))) where
   pub quiet-inside : (b d : ℕ) (ls : List ℕ) → T (outside set d ls) → T (quiet begins 0 b d ls) → T (quiet begins 1 b (suc d) ls)
   quiet-inside b d [] t u = tt
   quiet-inside b d (r ∷ rs) t u =
-      let a = or (ltb 0 d) (among set r) in
+      let a = or (ltb 0 d) (amongSymbols set r) in
       let o = outside set (depthAfter d r) rs in
       let c = not (eqb d 0 && begins b r) in
       let k = quiet begins 0 r (depthAfter d r) rs in
@@ -78,7 +78,7 @@ module _ (set : List ℕ) (none : T (not (among set BodyClose))) where
   role-same : (roles : List ℕ) (d : ℕ) (xs : List Reading) → T (outside set d (rolesOf xs)) → withRole roles 1 (suc d) xs ≡ withRole roles 0 d xs
   role-same roles d [] t = refl
   role-same roles d (x ∷ xs) t =
-      let a = or (ltb 0 d) (among set (x .role)) in
+      let a = or (ltb 0 d) (amongSymbols set (x .role)) in
       let b = outside set (depthAfter d (x .role)) (rolesOf xs) in
       let n = depthAfter d (x .role) in
       let s = x .token .start in
@@ -98,7 +98,7 @@ module _ (set : List ℕ) (none : T (not (among set BodyClose))) where
   unfolding depthAfter
   enclosed-inside d [] c others t e = rw (eqb→eq d 0 t, e)
   enclosed-inside d (x ∷ xs) c others t e =
-      let a = or (ltb 0 d) (among set (x .role)) in
+      let a = or (ltb 0 d) (amongSymbols set (x .role)) in
       let b = outside set (depthAfter d (x .role)) (rolesOf xs) in
       let n = depthAfter d (x .role) in
       let i = enclosed-inside n xs c others (both-right a b t) e in

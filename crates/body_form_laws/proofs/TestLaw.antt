@@ -11,7 +11,7 @@ use Rattle.dimrules.specs.declared.TensorType.{TensorType}
 use Rattle.dimrules.specs.declared.DimTest.the-variants.{Same}
 use Rattle.dimrules.specs.Count.{everywhere}
 use Rattle.dimrules.specs.Dims.{dim, dimTest}
-use Rattle.dimrules.specs.Types.{elementCode, shapesOf, sameElement, sameShape, sameType}
+use Rattle.dimrules.specs.Types.{elementCode, shapesBeside, sameElement, sameShape, sameType}
 use Rattle.dimrules.proofs.CountLaw.{Reached, reach-none, reach-next, reach-end}
 
 pub six : (a b c d e f : Bool) → a && b && c && d && e && f ≡ true → (a ≡ true) × (b ≡ true) × (c ≡ true) × (d ≡ true) × (e ≡ true) × (f ≡ true)
@@ -92,4 +92,4 @@ pub type-itself : (x : TensorType) → sameType x x ≡ true
 unfolding sameType sameElement sameShape dimTest
 type-itself x =
     rw (eq-eqb (elementCode (x .element)) (elementCode (x .element)) refl, eq-eqb (x .shape .rank) (x .shape .rank) refl)
-    (holds-everywhere (x .shape .rank) (dimTest Same (shapesOf x x 0)) (λ d. eq-eqb (dim (x .shape) d) (dim (x .shape) d) refl))
+    (holds-everywhere (x .shape .rank) (dimTest Same (shapesBeside x x 0)) (λ d. eq-eqb (dim (x .shape) d) (dim (x .shape) d) refl))

@@ -11,7 +11,7 @@ use borrow.Author.Tests.{eqb-true, ltb-true}
 use Rattle.lists.specs.Lists.{pick, All}
 use Rattle.lists.proofs.TestLaw.{both-true}
 use Rattle.run.specs.Tree.{fold, Tree, treeValue}
-use Rattle.element.specs.Types.{Value}
+use Rattle.element.specs.Types.{SlotHolds}
 use Rattle.scalar.specs.Body.{bodyOf}
 use Rattle.scalar.specs.declared.Body.{Body}
 use Rattle.scalar.specs.declared.Direction.{Direction}
@@ -33,11 +33,11 @@ use Rattle.values.specs.declared.Values.{Values}
 use Rattle.values.specs.Values.{opsOf, valuesIn}
 use Rattle.attributes.specs.Attributes.{choiceOf}
 use Rattle.bodies.specs.Bodies.{innerOp, hasCount, bodyCounted, opCounted, rowNamed, isReducer, onBoth, returnsIt, oneType, formed, bodyFits, bodyRow}
-use Rattle.typing.specs.Typing.{rowOf, bodiesFit, inTable, typedOp}
+use Rattle.typing.specs.Typing.{rowNamedIn, bodiesFit, inTable, typedOp}
 use Rattle.facts.specs.Facts.{hasBody, kindBy}
 use Rattle.facts.proofs.AcceptedLaw.{row-for}
 use Rattle.verify.specs.Verify.{programRefusal, verdict}
-use Rattle.nodes.specs.Nodes.{reducerAt, kindOf, nodeAt}
+use Rattle.nodes.specs.Nodes.{reducerAt, opKind, nodeAt}
 use Rattle.nodes.proofs.TypedLaw.{typed-parts}
 use Rattle.nodes.proofs.VerdictLaw.{both-zero}
 use Rattle.nodes.proofs.AcceptedLaw.{accepted-count, accepted-names, accepted-stands}
@@ -90,27 +90,27 @@ record Bodied (text : List ℕ) (op : Parts) : Type 0 where
   one : countOf op bodyOpen ≡ 1
   fits : bodyFits text (placeOf op bodyOpen 0) ≡ true
 
-module _ (text : List ℕ) (op : Parts) (values : List Named) (n : ℕ) (typed : typedOp text op (rowOf text op) values n ≡ true) (body : Body) (is : kindOf text op ≡ Reduce body) where
-  has-body : rowOf text op .body ≡ true
-  unfolding rowOf kindOf inTable
+module _ (text : List ℕ) (op : Parts) (values : List Named) (n : ℕ) (typed : typedOp text op (rowNamedIn text op) values n ≡ true) (body : Body) (is : opKind text op ≡ Reduce body) where
+  has-body : rowNamedIn text op .body ≡ true
+  unfolding rowNamedIn opKind inTable
   has-body =
       let d = directionAt (choiceOf text op comparisonDirection) in
       let b = reducerAt (bodyRow text (placeOf op bodyOpen 0)) in
       let row = rowNamed text (placeOf op opName 0) in
-      let l = ltb-true row (length ops) (typed-parts text op (rowOf text op) values n typed .table) in
+      let l = ltb-true row (length ops) (typed-parts text op (rowNamedIn text op) values n typed .table) in
       row-for d b row l .body ∙ ap hasBody is
 
   reduce-bodied : Bodied text op
   unfolding bodiesFit
   reduce-bodied =
-      let row = rowOf text op in
+      let row = rowNamedIn text op in
       let h = both-true (eqb (countOf op bodyOpen) (pick (row .body) 1 0)) (pick (row .body) (bodyFits text (placeOf op bodyOpen 0)) true) (typed-parts text op row values n typed .bodies) in
       record { one = eqb-true (countOf op bodyOpen) 1 (rw has-body at (h .0)); fits = rw has-body at (h .1) }
 
   reduce-operation : reducerAt (bodyRow text (placeOf op bodyOpen 0)) ≡ body
-  unfolding kindOf
+  unfolding opKind
   reduce-operation =
-      gathers (directionAt (choiceOf text op comparisonDirection)) (reducerAt (bodyRow text (placeOf op bodyOpen 0))) body (rowOf text op .class) is
+      gathers (directionAt (choiceOf text op comparisonDirection)) (reducerAt (bodyRow text (placeOf op bodyOpen 0))) body (rowNamedIn text op .class) is
 
 -- ---- an accepted text
 
@@ -133,7 +133,7 @@ module _ (text : List ℕ) (e : verdict text .number ≡ 0) where
   text-passes = both-zero (textRefusal text .number) (programRefusal text p vs) (textRefusal text) refl e .0
 
   module _ (k : ℕ) (l : k < opsOf p) (body : Body) (is : nodeAt text p vs k .kind ≡ Reduce body) where
-    kind-is : kindOf text (opOf k) ≡ Reduce body
+    kind-is : opKind text (opOf k) ≡ Reduce body
     unfolding nodeAt
     kind-is = is
 
@@ -149,7 +149,7 @@ module _ (text : List ℕ) (e : verdict text .number ≡ 0) where
         (two-arguments text (braceOf k) (bodied .fits))
 
     -- the operation that op k gathers with is its body's text, on values of its element type
-    pub accepted-body : (x y : ℕ) → Value (elementOf (nodeAt text p vs k)) x → Value (elementOf (nodeAt text p vs k)) y
+    pub accepted-body : (x y : ℕ) → SlotHolds (elementOf (nodeAt text p vs k)) x → SlotHolds (elementOf (nodeAt text p vs k)) y
         → bodyOf body (elementOf (nodeAt text p vs k)) x y ≡ bodyValue text (braceOf k) (elementOf (nodeAt text p vs k)) x y
     accepted-body x y u v =
         let t = elementOf (nodeAt text p vs k) in
@@ -157,15 +157,15 @@ module _ (text : List ℕ) (e : verdict text .number ≡ 0) where
         ap (λ (b : Body). bodyOf b t x y) (sym o) ∙ sym (body-value text (braceOf k) (bodied .fits) differ t x y u v)
 
     -- so "a node the body on its left and right value", by any tree
-    pub accepted-tree : (start : ℕ) (elements : List ℕ) → Value (elementOf (nodeAt text p vs k)) start → All (Value (elementOf (nodeAt text p vs k))) elements → (tree : Tree)
+    pub accepted-tree : (start : ℕ) (elements : List ℕ) → SlotHolds (elementOf (nodeAt text p vs k)) start → All (SlotHolds (elementOf (nodeAt text p vs k))) elements → (tree : Tree)
         → treeValue (bodyOf body (elementOf (nodeAt text p vs k))) start elements tree ≡ treeValue (bodyValue text (braceOf k) (elementOf (nodeAt text p vs k))) start elements tree
     accepted-tree start elements u a =
         let t = elementOf (nodeAt text p vs k) in
-        same-tree (Value t) (bodyOf body t) (bodyValue text (braceOf k) t) (body-closed body t) accepted-body start elements u a
+        same-tree (SlotHolds t) (bodyOf body t) (bodyValue text (braceOf k) t) (body-closed body t) accepted-body start elements u a
 
     -- and "Evaluation folds from the start value, once, over elements in ascending order"
-    pub accepted-fold : (start : ℕ) (elements : List ℕ) → Value (elementOf (nodeAt text p vs k)) start → All (Value (elementOf (nodeAt text p vs k))) elements
+    pub accepted-fold : (start : ℕ) (elements : List ℕ) → SlotHolds (elementOf (nodeAt text p vs k)) start → All (SlotHolds (elementOf (nodeAt text p vs k))) elements
         → fold (bodyOf body (elementOf (nodeAt text p vs k))) start elements ≡ fold (bodyValue text (braceOf k) (elementOf (nodeAt text p vs k))) start elements
     accepted-fold start elements u a =
         let t = elementOf (nodeAt text p vs k) in
-        same-fold (Value t) (bodyOf body t) (bodyValue text (braceOf k) t) (body-closed body t) accepted-body start elements u a
+        same-fold (SlotHolds t) (bodyOf body t) (bodyValue text (braceOf k) t) (body-closed body t) accepted-body start elements u a

@@ -10,7 +10,7 @@ use lib.ListN.{length, getD}
 use borrow.Author.Tests.{eq-eqb, le-ltb, lt-ltb}
 use Rattle.lists.specs.Lists.{pick, All, concat}
 use Rattle.lists.proofs.AllLaw.{all-get}
-use Rattle.grammar.specs.Symbols.{NamedOp, BodyOpen, BodyLabel, ArgumentName, ArgumentType, lparen, comma, colon, OpName, Body, Op, Program, leafCount, among}
+use Rattle.grammar.specs.Symbols.{NamedOp, BodyOpen, BodyLabel, ArgumentName, ArgumentType, lparen, comma, colon, OpName, Body, Op, Program, leafCount, amongSymbols}
 use Rattle.grammar.specs.Grammar.{Production, grammar}
 use Rattle.grammar.specs.Derivation.{_∈_}
 use Rattle.grammar.proofs.TableTest.{both-left, both-right, or, implies, implied, up-to}
@@ -99,7 +99,7 @@ covers set (h ∷ hs) (y ∷ ys) post others e f t =
     let q : y ≡ h = cc in
     let r : ys ++ post ≡ hs ++ others = cc in
     let d : depthAfter 1 (y .role) ≡ 1 = ap (λ (x : Reading). depthAfter 1 (x .role)) q ∙ eqb→eq (depthAfter 1 (h .role)) 1 (both-left (eqb (depthAfter 1 (h .role)) 1) _ f) in
-    let u = subst (λ (n : ℕ). T (outside set n (rolesOf ys))) d (both-right (or (ltb 0 1) (among set (y .role))) (outside set (depthAfter 1 (y .role)) (rolesOf ys)) t) in
+    let u = subst (λ (n : ℕ). T (outside set n (rolesOf ys))) d (both-right (or (ltb 0 1) (amongSymbols set (y .role))) (outside set (depthAfter 1 (y .role)) (rolesOf ys)) t) in
     let c = covers set hs ys post others r (both-right (eqb (depthAfter 1 (h .role)) 1) _ f) u in
     record { tail = c .tail; whole = ap (λ (x : Reading). x ∷ ys) q ∙ ap (λ (l : List Reading). h ∷ l) (c .whole) }
 
@@ -118,7 +118,7 @@ op-outside = tt
 opened : (x : Reading) (xs : List Reading) → x .role ≡ BodyOpen → T (outside wholeOp 0 (rolesOf (x ∷ xs))) → T (outside wholeOp 1 (rolesOf xs))
 unfolding depthAfter
 opened x xs e t =
-    subst (λ (r : ℕ). T (outside wholeOp (depthAfter 0 r) (rolesOf xs))) e (both-right (or (ltb 0 0) (among wholeOp (x .role))) (outside wholeOp (depthAfter 0 (x .role)) (rolesOf xs)) t)
+    subst (λ (r : ℕ). T (outside wholeOp (depthAfter 0 r) (rolesOf xs))) e (both-right (or (ltb 0 0) (amongSymbols wholeOp (x .role))) (outside wholeOp (depthAfter 0 (x .role)) (rolesOf xs)) t)
 
 calm-head : (h : Head) → T (allPass (λ r. eqb (depthAfter 1 r) 1) (rolesOf (afterBrace h)))
 unfolding depthAfter
@@ -190,7 +190,7 @@ module _ (text : List ℕ) (e : textRefusal text .number ≡ 0) where
       let b = between (turned text before (x .role) (x .token .start) es) (λ rest. namesFrom text (x .role) rest xs) out n in (
         (λ z l k. body-apart before es out pre x xs post q (body-role (x .role) (low .0) k) (subst (λ (m : ℕ). T (outside wholeOp m (rolesOf (x ∷ xs)))) z t) s n),
         level-apart (x .role) (depthAfter d (x .role)) (b .mid) out (pre ++ (x ∷ [])) xs post (q ∙ sym (append-assoc pre (x ∷ []) (xs ++ post))) (low .1)
-            (both-right (or (ltb 0 d) (among wholeOp (x .role))) (outside wholeOp (depthAfter d (x .role)) (rolesOf xs)) t) (s .1) (b .then),
+            (both-right (or (ltb 0 d) (amongSymbols wholeOp (x .role))) (outside wholeOp (depthAfter d (x .role)) (rolesOf xs)) t) (s .1) (b .then),
       )
 
   started-all : Started (readings text)

@@ -7,7 +7,7 @@ use Prim.Native.Nat.{ℕ}
 use lib.Dec.{eqb}
 use borrow.Author.Tests.{eqb-true, eq-eqb}
 use Rattle.lists.proofs.TestLaw.{both-true}
-use Rattle.element.specs.Types.{Value}
+use Rattle.element.specs.Types.{SlotHolds}
 use Rattle.element.specs.declared.ElementType.{ElementType}
 use Rattle.scalar.specs.Ops.{binaryOf}
 use Rattle.scalar.specs.Body.{bodyOf}
@@ -95,7 +95,7 @@ operation-of (By b) e = refl
 module _ (text : List ℕ) (at : ℕ) (fits : bodyFits text at ≡ true)
     -- the names of its arguments differ: in an accepted text they do (ArgumentLaw)
     (differ : sameAt text (placeOf (bodyAt text at) inputName 0) (placeOf (bodyAt text at) inputName 1) ≡ false)
-    (t : ElementType) (x y : ℕ) (u : Value t x) (v : Value t y) where
+    (t : ElementType) (x y : ℕ) (u : SlotHolds t x) (v : SlotHolds t y) where
   abbrev parts : Parts
   parts = bodyAt text at
 

@@ -8,7 +8,7 @@ use native.Mathlib.Omega.{arith}
 use lib.Dec.{T, eqb, eqb→eq, ltb}
 use borrow.Author.Tests.{eqb-true, ne-eqb}
 use Rattle.lists.specs.Lists.{pick}
-use Rattle.grammar.specs.Symbols.{BodyOpen, BodyLabel, ArgumentName, ArgumentType, BodyOpName, BodyReturn, BodyClose, lparen, rparen, comma, colon, Body, Arguments, MoreArguments, BodyOps, NamedBodyOps, among}
+use Rattle.grammar.specs.Symbols.{BodyOpen, BodyLabel, ArgumentName, ArgumentType, BodyOpName, BodyReturn, BodyClose, lparen, rparen, comma, colon, Body, Arguments, MoreArguments, BodyOps, NamedBodyOps, amongSymbols}
 use Rattle.grammar.specs.Grammar.{Production, grammar}
 use Rattle.grammar.specs.Derivation.{_∈_, here, there}
 use Rattle.grammar.specs.Leaves.{Yields}
@@ -97,15 +97,15 @@ deeper-case zero false true f = let z : _≡_ {A = ℕ} 0 1 = (let q = f refl in
 deeper-case (suc d) false true f = omega arith
 deeper-case d false false f = refl
 
-deeper : (d r : ℕ) → T (or (ltb 0 d) (among opSymbols r)) → depthAfter (suc d) r ≡ suc (depthAfter d r)
+deeper : (d r : ℕ) → T (or (ltb 0 d) (amongSymbols opSymbols r)) → depthAfter (suc d) r ≡ suc (depthAfter d r)
 unfolding depthAfter
-deeper d r t = deeper-case d (eqb r BodyOpen) (eqb r BodyClose) (λ e. open-test (eqb r BodyClose) refl (subst (λ (n : ℕ). T (or (ltb 0 n) (among opSymbols r))) e t))
+deeper d r t = deeper-case d (eqb r BodyOpen) (eqb r BodyClose) (λ e. open-test (eqb r BodyClose) refl (subst (λ (n : ℕ). T (or (ltb 0 n) (amongSymbols opSymbols r))) e t))
   where
-    open-test : (b : Bool) → eqb r BodyClose ≡ b → T (among opSymbols r) → b ≡ false
-    open-test true q u = absurd (subst (λ (n : ℕ). T (among opSymbols n)) (eqb-true r BodyClose q) u)
+    open-test : (b : Bool) → eqb r BodyClose ≡ b → T (amongSymbols opSymbols r) → b ≡ false
+    open-test true q u = absurd (subst (λ (n : ℕ). T (amongSymbols opSymbols n)) (eqb-true r BodyClose q) u)
     open-test false q u = refl
 
-none-inside : (d r : ℕ) → T (or (ltb 0 d) (among opSymbols r)) → _≡_ {A = ℕ} (pick (eqb (suc d) 1) (pick (eqb (partOf r) inputName) 1 0) 0) 0
+none-inside : (d r : ℕ) → T (or (ltb 0 d) (amongSymbols opSymbols r)) → _≡_ {A = ℕ} (pick (eqb (suc d) 1) (pick (eqb (partOf r) inputName) 1 0) 0) 0
 none-inside zero r t = rw (not-true-false (eqb (partOf r) inputName) (member-passes (λ x. not (eqb (partOf x) inputName)) opSymbols r argument-free t))
 none-inside (suc d) r t = rw (ne-eqb (suc (suc d)) 1 (λ e. omega arith))
 
@@ -113,7 +113,7 @@ tail-none : (d : ℕ) (ls : List ℕ) → T (outside opSymbols d ls) → inner i
 unfolding partOf
 tail-none d [] t = rw (eqb→eq d 0 t)
 tail-none d (r ∷ rs) t =
-    let a = or (ltb 0 d) (among opSymbols r) in
+    let a = or (ltb 0 d) (amongSymbols opSymbols r) in
     let b = outside opSymbols (depthAfter d r) rs in
     let x = none-inside d r (both-left a b t) in
     let e = deeper d r (both-left a b t) in

@@ -14,7 +14,7 @@ use Rattle.element.specs.declared.ElementType.{ElementType}
 use Rattle.element.specs.declared.ElementType.the-variants.{I1, I8, I16, I32, I64, U8, U16, U32, U64}
 use Rattle.dimrules.specs.Count.{everywhere}
 use Rattle.dimrules.specs.Dims.{dim, dimTest}
-use Rattle.dimrules.specs.Types.{elementCode, sameElement, sameShape, sameType, shapesOf}
+use Rattle.dimrules.specs.Types.{elementCode, sameElement, sameShape, sameType, shapesBeside}
 use Rattle.dimrules.specs.declared.TensorType.{TensorType}
 use Rattle.dimrules.specs.declared.DimTest.the-variants.{Same}
 use Rattle.dimrules.proofs.CountLaw.{holds-at}
@@ -89,7 +89,7 @@ shapes-same x y =
     shape-is x d k ∙ ap pos (eqb-true _ _ (holds-at (rank x) same (h .1) d k)) ∙ sym (shape-is y d (rw (sym q) k))))
   where
     same : ℕ → Bool
-    same = dimTest Same (shapesOf x y 0)
+    same = dimTest Same (shapesBeside x y 0)
 
 -- type(x) = type(y)
 pub types-same : (x y : TensorType) → checkHolds (sameTypes x y) ≡ sameType x y

@@ -7,7 +7,7 @@ use mathlib.Core.Option.{Option, some}
 use Prim.Native.Nat.{ℕ, zero, suc, _≤_, _<_}
 use native.Mathlib.Omega.{arith}
 use Rattle.lists.specs.Lists.{firstWhere}
-use Rattle.run.specs.Run.{Program, count, ended, resultsOf}
+use Rattle.run.specs.Run.{RunProgram, count, ended, resultsOf}
 use Rattle.run.specs.Tree.{Tree, leaf, node, start, element}
 use Rattle.run.specs.Ways.{OrderOf, TreesAllowed, freeRun}
 use Rattle.run.proofs.TableLaw.{count-other}
@@ -41,7 +41,7 @@ abbrev three : TensorType
 three = record { element = I8; dims = 3 ∷ [] }
 
 -- its program
-abbrev pub ops : Program Node
+abbrev pub ops : RunProgram Node
 ops =
     record {
       inputs = 1;
@@ -130,8 +130,8 @@ Ran results table =
 pub claim-used : OrderFreeAnswer negatedSum input 0 store → Ran ((51 ∷ []) ∷ []) (some input ∷ some negated ∷ some (0 ∷ []) ∷ some (51 ∷ []) ∷ [])
 unfolding OrderFreeAnswer
 claim-used claim =
-    let c = claim accepted (subst StartsAtIdentity (sym is-ops) starts) order (subst (λ (p : Program Node). OrderOf hlo p order) (sym is-ops) is-order)
-    trees (subst (λ (p : Program Node). TreesAllowed hlo p trees) (sym is-ops) allowed) in (
-      c .returned refl ∙ ap (λ (p : Program Node). some (map (valueIn (valuesOf negatedSum) store) (p .returns))) is-ops ∙ ap (λ (v : Tensor). some (v ∷ [])) result-is,
+    let c = claim accepted (subst StartsAtIdentity (sym is-ops) starts) order (subst (λ (p : RunProgram Node). OrderOf hlo p order) (sym is-ops) is-order)
+    trees (subst (λ (p : RunProgram Node). TreesAllowed hlo p trees) (sym is-ops) allowed) in (
+      c .returned refl ∙ ap (λ (p : RunProgram Node). some (map (valueIn (valuesOf negatedSum) store) (p .returns))) is-ops ∙ ap (λ (v : Tensor). some (v ∷ [])) result-is,
       c .values refl ∙ ap (λ (ts : List Tensor). ended (map some ts)) values-are,
     )

@@ -7,7 +7,7 @@ use mathlib.Core.List.{List, [], _∷_, _++_, map}
 use Prim.Native.Nat.{ℕ, suc}
 use lib.ListN.{getD, drop}
 use Rattle.lists.specs.Lists.{All}
-use Rattle.run.specs.Run.{Program}
+use Rattle.run.specs.Run.{RunProgram}
 use Rattle.element.specs.declared.ElementType.{ElementType}
 use Rattle.element.specs.declared.ElementType.the-variants.{I1, I8, I16, I32, I64, U8, U16, U32, U64}
 use Rattle.scalar.specs.declared.Body.{Body}
@@ -45,7 +45,7 @@ starts =
     ++ starting Xor types (0 ∷ 0 ∷ 0 ∷ 0 ∷ 0 ∷ 0 ∷ 0 ∷ 0 ∷ 0 ∷ [])
 
 -- value 0 is an input of two elements, value 1 the start, value 2 the reduction
-abbrev pub reduced : Start → Program Node
+abbrev pub reduced : Start → RunProgram Node
 reduced s =
     let one : TensorType = record { element = s .type; dims = [] } in
     let two : TensorType = record { element = s .type; dims = 2 ∷ [] } in

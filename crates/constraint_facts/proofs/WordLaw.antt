@@ -13,7 +13,7 @@ use lib.IntN.{ℤ, pos, negsuc, natAbs}
 use borrow.Author.Tests.{eq-eqb}
 use Rattle.dimrules.specs.Count.{everywhere}
 use Rattle.dimrules.specs.Dims.{dim, dimTest}
-use Rattle.dimrules.specs.Types.{sameElement, sameShape, sameType, shapesOf}
+use Rattle.dimrules.specs.Types.{sameElement, sameShape, sameType, shapesBeside}
 use Rattle.dimrules.specs.declared.TensorType.{TensorType}
 use Rattle.dimrules.specs.declared.DimTest.the-variants.{Same}
 use Rattle.rules.specs.Facts.{AlikeShapes, AlikeTypes}
@@ -39,8 +39,8 @@ shapes-true x y e = same-shape x y (sym (shapes-same x y) ∙ e)
 shape-test : (x y : TensorType) → AlikeShapes (x .shape) (y .shape) → sameShape x y ≡ true
 unfolding sameShape dimTest
 shape-test x y f =
-    and-true (eqb (rank x) (rank y)) (everywhere (rank x) (dimTest Same (shapesOf x y 0))) (eq-eqb (rank x) (rank y) (f .rank))
-    (everywhere-all (rank x) (dimTest Same (shapesOf x y 0)) (λ d k. eq-eqb (dim (x .shape) d) (dim (y .shape) d) (f .dims d k)))
+    and-true (eqb (rank x) (rank y)) (everywhere (rank x) (dimTest Same (shapesBeside x y 0))) (eq-eqb (rank x) (rank y) (f .rank))
+    (everywhere-all (rank x) (dimTest Same (shapesBeside x y 0)) (λ d k. eq-eqb (dim (x .shape) d) (dim (y .shape) d) (f .dims d k)))
 
 pub true-shapes : (x y : TensorType) → AlikeShapes (x .shape) (y .shape) → checkHolds (entries (shape x) [=] entries (shape y)) ≡ true
 true-shapes x y f = shapes-same x y ∙ shape-test x y f

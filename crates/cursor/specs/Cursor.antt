@@ -11,9 +11,9 @@ unfoldable pub tokenOf : List ℕ → Cursor → Token
 tokenOf text c = tokenAt text (c .at)
 
 -- reading goes on at the byte after a token's last
-unfoldable pub afterToken : Token → Cursor
-afterToken t = record { at = t .end }
+unfoldable pub cursorAfter : Token → Cursor
+cursorAfter t = record { at = t .end }
 
 -- the cursor after the token at or after it
 unfoldable pub pastToken : List ℕ → Cursor → Cursor
-pastToken text c = afterToken (tokenOf text c)
+pastToken text c = cursorAfter (tokenOf text c)

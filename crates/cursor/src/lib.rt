@@ -2,7 +2,7 @@
 use text::Token;
 use text::token_at;
 ghost use mathlib.Core.Path.{_≡_};
-ghost use Rattle.cursor.specs.Cursor.{tokenOf, afterToken, pastToken};
+ghost use Rattle.cursor.specs.Cursor.{tokenOf, cursorAfter, pastToken};
 
 // Reading goes on at byte at.
 pub struct Cursor {
@@ -18,7 +18,7 @@ pub fn token(text: &[u8], c: Cursor) -> Token
 
 // The cursor after a token that was read.
 pub fn after(t: Token) -> Cursor
-    ensures { λ r. ⌜ r ≡ afterToken t ⌝ }
+    ensures { λ r. ⌜ r ≡ cursorAfter t ⌝ }
 {
     Cursor { at: t.end }
 }

@@ -15,7 +15,7 @@ use Rattle.text.specs.Lex.{tokenAt}
 use Rattle.text.specs.Names.{wordIs}
 use Rattle.text.specs.declared.Token.{Token}
 use Rattle.types.specs.Tensors.{typeOf}
-use Rattle.grammar.specs.Symbols.{END, NUMBER, FUNC, DIALECT, TYPE, ARROW, OTHER, DENSE, LPAREN, RPAREN, LBRACE, RBRACE, LANGLE, RANGLE, LBRACKET, RBRACKET, COMMA, COLON, EQUALS, AttributeName, SingleNumber, ElementLiteral, DenseOpen, DenseClose, DenseType, langle, rangle, comma, colon, equals, dialect, array, dense, Value, Dense, DenseItems, MoreItems, Program, among, matches, leafKinds}
+use Rattle.grammar.specs.Symbols.{END, NUMBER, FUNC, DIALECT, TYPE, ARROW, OTHER, DENSE, LPAREN, RPAREN, LBRACE, RBRACE, LANGLE, RANGLE, LBRACKET, RBRACKET, COMMA, COLON, EQUALS, AttributeName, SingleNumber, ElementLiteral, DenseOpen, DenseClose, DenseType, langle, rangle, comma, colon, equals, dialect, array, dense, Value, Dense, DenseItems, MoreItems, Program, amongSymbols, matches, leafKinds}
 use Rattle.grammar.specs.Leaves.{StandFor, allowed}
 use Rattle.grammar.proofs.TableTest.{true-T}
 use Rattle.grammar.proofs.Within.{member-passes}
@@ -29,10 +29,10 @@ use Rattle.syntax.proofs.Labelling.{Reads, stop, read, whole, reads-gives}
 use Rattle.syntax.proofs.AloneLaw.{token-again, readings-short}
 use Rattle.syntax.proofs.OutlineLaw.{reads-yields}
 use Rattle.syntax.proofs.Theorems.{no-fault}
-use Rattle.optable.specs.Table.{Dense as DenseKind, choiceKinds, choiceForm}
-use Rattle.attribute.specs.Attribute.{tokenAfter, wordForm, choiceAt, formAt, endsLiteral, closeFrom, denseAt}
+use Rattle.optable.specs.Table.{DenseKind, choiceKinds, choiceForm}
+use Rattle.attribute.specs.Attribute.{tokenAfter, wordForm, choiceAt, formAt, endsLiteral, closeFrom, denseTokens}
 use Rattle.judge.specs.declared.tally.Tally.{Tally}
-use Rattle.judge.specs.Roles.{among as amongRoles}
+use Rattle.judge.specs.Roles.{amongRoles}
 use Rattle.judge.specs.Tally.{atStart, afterToken}
 use Rattle.judge.specs.Sizes.{typePassed, passes}
 use Rattle.judge.specs.Judge.{unknown, textRefusal}
@@ -108,15 +108,15 @@ literals = ElementLiteral ∷ DenseOpen ∷ DenseClose ∷ comma ∷ Dense ∷ D
 abbrev others : List ℕ
 others = SingleNumber ∷ array ∷ dialect ∷ Value ∷ []
 
-not-close : (r : ℕ) → T (among literals r) → matches r RANGLE ≡ false
+not-close : (r : ℕ) → T (amongSymbols literals r) → matches r RANGLE ≡ false
 unfolding matches leafKinds
 not-close r a = no-T (matches r RANGLE) (member-passes (λ r. not (matches r RANGLE)) literals r tt a)
 
-not-last : (r : ℕ) → T (among literals r) → matches r END ≡ false
+not-last : (r : ℕ) → T (amongSymbols literals r) → matches r END ≡ false
 unfolding matches leafKinds
 not-last r a = no-T (matches r END) (member-passes (λ r. not (matches r END)) literals r tt a)
 
-not-dense : (r : ℕ) → T (among others r) → matches r DENSE ≡ false
+not-dense : (r : ℕ) → T (amongSymbols others r) → matches r DENSE ≡ false
 unfolding matches leafKinds
 not-dense r a = no-T (matches r DENSE) (member-passes (λ r. not (matches r DENSE)) others r tt a)
 
@@ -146,7 +146,7 @@ module _ (text : List ℕ) where
       by-kind false e = absurd (let z : pick false true false ≡ true = rw (kind-other text t e .other) at m in not-both z refl)
 
   -- one of a literal does not
-  within-literal : (t : Token) (r : ℕ) → T (among literals r) → matches r (kindOf text t) ≡ true → endsLiteral (t .kind) ≡ false
+  within-literal : (t : Token) (r : ℕ) → T (amongSymbols literals r) → matches r (kindOf text t) ≡ true → endsLiteral (t .kind) ≡ false
   unfolding endsLiteral
   within-literal t r a m = by-kind (eqb (t .kind) 62) (eqb (t .kind) 0) refl refl
     where
@@ -200,9 +200,9 @@ module _ (text : List ℕ) where
   unfolding closeFrom
   at-literal left at [] l e f = absurd (omega arith)
   at-literal zero at (x ∷ xs) l e f = absurd (omega arith)
-  at-literal (suc left) at (x ∷ xs) l e f = by-role (eqb (x .role) rangle) (among literals (x .role)) refl refl (λ q. at-literal left (x .token .end) xs (omega arith) q (f .3))
+  at-literal (suc left) at (x ∷ xs) l e f = by-role (eqb (x .role) rangle) (amongSymbols literals (x .role)) refl refl (λ q. at-literal left (x .token .end) xs (omega arith) q (f .3))
     where
-      by-role : (b c : Bool) → eqb (x .role) rangle ≡ b → among literals (x .role) ≡ c →
+      by-role : (b c : Bool) → eqb (x .role) rangle ≡ b → amongSymbols literals (x .role) ≡ c →
           (run 4 (rolesOf xs) ≡ 0 → TypeStands text (tokenAfter 1 text (closeFrom left text (x .token .end)) .start)) →
           TypeStands text (tokenAfter 1 text (closeFrom (suc left) text at) .start)
       by-role true c q r more =
@@ -246,9 +246,9 @@ module _ (text : List ℕ) where
   at-value : (at : ℕ) (xs : List Reading) → length xs ≤ length text → kindOf text (tokenAt text at) ≡ DENSE → run 2 (rolesOf xs) ≡ 0 → Follow at xs → TypeStands text (typeAfter 2 at)
   unfolding tokenAfter
   at-value at [] l k e f = absurd (omega arith)
-  at-value at (x ∷ xs) l k e f = by-role (eqb (x .role) dense) (among others (x .role)) refl refl
+  at-value at (x ∷ xs) l k e f = by-role (eqb (x .role) dense) (amongSymbols others (x .role)) refl refl
     where
-      by-role : (b c : Bool) → eqb (x .role) dense ≡ b → among others (x .role) ≡ c → TypeStands text (typeAfter 2 at)
+      by-role : (b c : Bool) → eqb (x .role) dense ≡ b → amongSymbols others (x .role) ≡ c → TypeStands text (typeAfter 2 at)
       by-role true c q r = subst (λ (t : Token). TypeStands text (typeAfter 1 (t .end))) (f .0) (at-open (x .token .end) xs (omega arith) (next-run 2 3 (x .role) (rolesOf xs) (rw q) e) (f .3))
       by-role false true q r =
           let z : kindOf text (x .token) ≡ DENSE = rw (f .0) k in
@@ -270,10 +270,10 @@ module _ (text : List ℕ) where
 
   -- the attribute whose name is at a byte: where its value is a dense one, a type of 01 is written after it
   abbrev pub DenseStands : ℕ → Type 0
-  DenseStands name = formAt text name ≡ DenseKind → TypeStands text (denseAt text name .ty)
+  DenseStands name = formAt text name ≡ DenseKind → TypeStands text (denseTokens text name .ty)
 
   at-name : (at : ℕ) (x : Reading) (xs : List Reading) → length xs ≤ length text → x .token ≡ tokenAt text at → run 1 (rolesOf xs) ≡ 0 → Follow (x .token .end) xs → DenseStands (x .token .start)
-  unfolding tokenAfter denseAt
+  unfolding tokenAfter denseTokens
   at-name at x xs l t e f form =
       let q : tokenAt text (x .token .start) ≡ x .token = ap (λ (u : Token). tokenAt text (u .start)) t ∙ token-again text at ∙ sym t in
       let k : kindOf text (tokenAfter 1 text (x .token .end)) ≡ DENSE = subst (λ (u : Token). kindOf text (tokenAfter 1 text (u .end)) ≡ DENSE) q (form-dense (x .token .start) form) in

@@ -23,9 +23,9 @@ use Rattle.places.specs.Places.{attributeName, countOf, placeOf}
 use Rattle.reading_laws.proofs.CountLaw.{none-counted, wide-none}
 use Rattle.reading_laws.proofs.OpsLaw.{few-bytes, outlined, op-count, op-place}
 use Rattle.part_laws.proofs.StandLaw.{Every, parts-every, level-all, yields-leaves}
-use Rattle.optable.specs.Table.{Dense, attributeKind}
+use Rattle.optable.specs.Table.{DenseKind, attributeKind}
 use Rattle.optable.specs.declared.Row.{Row}
-use Rattle.attribute.specs.Attribute.{formAt, denseAt}
+use Rattle.attribute.specs.Attribute.{formAt, denseTokens}
 use Rattle.attributes.specs.Attributes.{attributesOf, standsAt, stands, denseFits, kindFits, attributesFit, nameOf, denseType}
 use Rattle.part_laws.proofs.StandLaw.{type-said}
 use Rattle.lists.proofs.TestLaw.{both-true}
@@ -112,13 +112,13 @@ module _ (text : List ℕ) (read : textRefusal text .number ≡ 0) where
   dense-stands = attribute-holds text read (DenseStands text) (text-named text read)
 
   -- the type of a dense value that an op of the text has, where its attributes fit a row
-  pub dense-written : (k : ℕ) → k + 1 < programOf text .count → (row : Row) → attributesFit text (op text k) row ≡ true → (a : ℕ) → attributeKind a ≡ Dense → stands text (op text k) a ≡ true →
-      denseType text (op text k) a ≡ said text (denseAt text (nameOf text (op text k) a) .ty)
+  pub dense-written : (k : ℕ) → k + 1 < programOf text .count → (row : Row) → attributesFit text (op text k) row ≡ true → (a : ℕ) → attributeKind a ≡ DenseKind → stands text (op text k) a ≡ true →
+      denseType text (op text k) a ≡ said text (denseTokens text (nameOf text (op text k) a) .ty)
   unfolding kindFits denseType nameOf attributesOf
   dense-written k h row fit a d e =
       let s = stands-there text (op text k) row fit a e in
       let m = s .0 in
-      let f : kindFits text (nameOf text (op text k) a) Dense ≡ true = rw d at (kind-fits text (op text k) row fit a e) in
-      let form = eqb-true (formAt text (nameOf text (op text k) a)) Dense (both-true (eqb (formAt text (nameOf text (op text k) a)) Dense) (denseFits text (nameOf text (op text k) a)) f .0) in
+      let f : kindFits text (nameOf text (op text k) a) DenseKind ≡ true = rw d at (kind-fits text (op text k) row fit a e) in
+      let form = eqb-true (formAt text (nameOf text (op text k) a)) DenseKind (both-true (eqb (formAt text (nameOf text (op text k) a)) DenseKind) (denseFits text (nameOf text (op text k) a)) f .0) in
       let t = dense-stands k h (standsAt text (op text k) a) (omega arith) (omega arith) in
       rw e (type-said text _ (t (rw e at form)))

@@ -21,18 +21,18 @@ use Rattle.values.specs.declared.Value.{Value}
 use Rattle.values.specs.declared.Values.{Values}
 use Rattle.known.specs.Known.{namesFault}
 use Rattle.typing.specs.declared.Judged.{Judged}
-use Rattle.typing.specs.Typing.{rowOf, operationOf, typedOp, opJudged}
+use Rattle.typing.specs.Typing.{rowNamedIn, operationOf, typedOp, opJudged}
 use Rattle.opwise.specs.Opwise.{byName, byOp, typingOf, opRefusal, opsFrom}
 use Rattle.opwise.proofs.OpwiseLaw.{refused, goes-on, none-left}
 use Rattle.nodes.proofs.VerdictLaw.{both-zero}
 use Rattle.default_laws.proofs.TypedLaw.{one-result}
 
-judged-typed : (text : List ℕ) (op : Parts) (values : List Value) (n : ℕ) → opJudged text op values n .refusal ≡ 0 → typedOp text op (rowOf text op) values n ≡ true
+judged-typed : (text : List ℕ) (op : Parts) (values : List Value) (n : ℕ) → opJudged text op values n .refusal ≡ 0 → typedOp text op (rowNamedIn text op) values n ≡ true
 unfolding opJudged
-judged-typed text op values n e = by-types (typedOp text op (rowOf text op) values n) e
+judged-typed text op values n e = by-types (typedOp text op (rowNamedIn text op) values n) e
   where
     c : ℕ
-    c = brokenBy (rowOf text op .rule) (operationOf text op (rowOf text op))
+    c = brokenBy (rowNamedIn text op .rule) (operationOf text op (rowNamedIn text op))
 
     by-types : (b : Bool) → pick {A = Judged} b (record { refusal = pick (eqb c 0) 0 8; b = c }) (record { refusal = 7; b = 0 }) .refusal ≡ 0 → b ≡ true
     by-types true e = refl
@@ -43,7 +43,7 @@ module _ (text : List ℕ) (p : Program) (vs : Values) where
   op k = opAt text (getD (p .ops) k 0)
 
   -- an op that is not refused is typed
-  pub passed-typed : (k : ℕ) → k + 1 < p .count → opRefusal text p vs k .number ≡ 0 → typedOp text (op k) (rowOf text (op k)) (vs .list) (vs .inputs + k) ≡ true
+  pub passed-typed : (k : ℕ) → k + 1 < p .count → opRefusal text p vs k .number ≡ 0 → typedOp text (op k) (rowNamedIn text (op k)) (vs .list) (vs .inputs + k) ≡ true
   unfolding opRefusal byName byOp typingOf
   passed-typed k h e =
       let f = namesFault text (vs .list) (vs .inputs + k) (getD (p .ops) k 0) in
@@ -56,7 +56,7 @@ module _ (text : List ℕ) (p : Program) (vs : Values) where
 
   -- each op before one that is judged has one result name and one result type: what `resultValue` has for an op without is not read
   pub one-result-before : (k : ℕ) → k < p .count → AllPass k → (i : ℕ) → i < k → (countOf (op i) resultName ≡ 1) × (countOf (op i) resultType ≡ 1)
-  one-result-before k h before i l = one-result text (op i) (rowOf text (op i)) (vs .list) (vs .inputs + i) (passed-typed i (omega arith) (before i l))
+  one-result-before k h before i l = one-result text (op i) (rowNamedIn text (op i)) (vs .list) (vs .inputs + i) (passed-typed i (omega arith) (before i l))
 
   -- an answer other than 0 is that of an op before which all pass
   pub record FirstRefused (left k : ℕ) : Type 0 where

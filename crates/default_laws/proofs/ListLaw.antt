@@ -13,7 +13,7 @@ use Rattle.grammar.specs.Symbols.{ListNumber, comma}
 use Rattle.syntax.specs.Readings.{Reading, readings}
 use Rattle.syntax.specs.Roles.{rolesOf}
 use Rattle.judge.specs.declared.tally.Tally.{Tally}
-use Rattle.judge.specs.Roles.{among}
+use Rattle.judge.specs.Roles.{amongRoles}
 use Rattle.judge.specs.Tally.{atStart, itemNumber, itemsAfter, afterToken}
 use Rattle.judge.specs.Sizes.{longList, passes}
 use Rattle.judge.specs.Judge.{textRefusal}
@@ -30,11 +30,11 @@ module _ (text : List ℕ) where
       ltb-false 6 (itemNumber s) b
 
   number-counted : (s : Tally) (x : Reading) → x .role ≡ ListNumber → afterToken text s (x .role) (x .token) .items ≡ itemNumber s
-  unfolding afterToken itemsAfter among
+  unfolding afterToken itemsAfter amongRoles
   number-counted s x e = rw e
 
   comma-goes-on : (s : Tally) (x : Reading) → x .role ≡ comma → itemNumber (afterToken text s (x .role) (x .token)) ≡ s .items + 1
-  unfolding afterToken itemsAfter itemNumber among
+  unfolding afterToken itemsAfter itemNumber amongRoles
   comma-goes-on s x e = rw e
 
   at-least-one : (s : Tally) → 1 ≤ itemNumber s

@@ -17,9 +17,9 @@ use Rattle.text.specs.Lex.{tokenAt}
 use Rattle.text.specs.Names.{wordIs}
 use Rattle.text.specs.declared.Token.{Token}
 use Rattle.shape.specs.Whole.{patternOf}
-use Rattle.types.specs.Numbers.{numberOf, isAttributeNumber, patternIn, fitting, unfit}
+use Rattle.types.specs.Numbers.{decimalNumber, isAttributeNumber, patternIn, fitting, unfit}
 use Rattle.types.specs.declared.numbers.Number.{Number as NumberRead}
-use Rattle.grammar.specs.Symbols.{NUMBER, AttributeName, SingleNumber, equals, dialect, array, dense, Value, among, matches, leafKinds}
+use Rattle.grammar.specs.Symbols.{NUMBER, AttributeName, SingleNumber, equals, dialect, array, dense, Value, amongSymbols, matches, leafKinds}
 use Rattle.grammar.specs.Leaves.{StandFor}
 use Rattle.grammar.proofs.TableTest.{true-T}
 use Rattle.grammar.proofs.Within.{member-passes}
@@ -33,9 +33,9 @@ use Rattle.syntax.proofs.AloneLaw.{token-again}
 use Rattle.syntax.proofs.OutlineLaw.{reads-yields}
 use Rattle.syntax.proofs.Theorems.{no-fault}
 use Rattle.optable.specs.Table.{Number, choiceKinds, choiceForm}
-use Rattle.attribute.specs.Attribute.{tokenAfter, valueAt, wordForm, choiceAt, formAt, patternAt, numberAt}
+use Rattle.attribute.specs.Attribute.{tokenAfter, valueToken, wordForm, choiceAt, formAt, patternAt, numberAt}
 use Rattle.judge.specs.declared.tally.Tally.{Tally}
-use Rattle.judge.specs.Roles.{among as amongRoles, numberRoles}
+use Rattle.judge.specs.Roles.{amongRoles, numberRoles}
 use Rattle.judge.specs.Tally.{atStart, afterToken}
 use Rattle.judge.specs.Sizes.{largeNumber, passes}
 use Rattle.judge.specs.Judge.{textRefusal}
@@ -53,7 +53,7 @@ use Rattle.default_laws.proofs.DenseTypeLaw.{attribute-holds}
 abbrev others : List ℕ
 others = dense ∷ array ∷ dialect ∷ Value ∷ []
 
-not-number : (r : ℕ) → among others r ≡ true → matches r NUMBER ≡ false
+not-number : (r : ℕ) → amongSymbols others r ≡ true → matches r NUMBER ≡ false
 unfolding matches leafKinds
 not-number r a = no-T (matches r NUMBER) (member-passes (λ r. not (matches r NUMBER)) others r tt (true-T _ a))
 
@@ -86,12 +86,12 @@ fits-range z e = go (isAttributeNumber z) e
 module _ (text : List ℕ) where
   -- the number whose token starts here lies in the signed 64-bit range
   abbrev pub Fits : ℕ → Type 0
-  Fits start = isAttributeNumber (numberOf text start) ≡ true
+  Fits start = isAttributeNumber (decimalNumber text start) ≡ true
 
   -- so it is the one that is read
-  pub pattern-written : (start : ℕ) → Fits start → patternAt text start ≡ patternOf (numberOf text start)
+  pub pattern-written : (start : ℕ) → Fits start → patternAt text start ≡ patternOf (decimalNumber text start)
   unfolding patternAt patternIn
-  pattern-written start e = ap (λ (b : Bool). pick {A = NumberRead} b (fitting (patternOf (numberOf text start))) unfit .bits) e
+  pattern-written start e = ap (λ (b : Bool). pick {A = NumberRead} b (fitting (patternOf (decimalNumber text start))) unfit .bits) e
 
   -- a value of the form of a number begins with one
   form-number : (name : ℕ) → formAt text name ≡ Number → kindOf text (tokenAfter 2 text name) ≡ NUMBER
@@ -119,15 +119,15 @@ module _ (text : List ℕ) where
   -- after `=`
   at-value : (at : ℕ) (xs : List Reading) → kindOf text (tokenAt text at) ≡ NUMBER → run 2 (rolesOf xs) ≡ 0 → Follow at xs → Fits (tokenAt text at .start)
   at-value at [] k e f = absurd (omega arith)
-  at-value at (x ∷ xs) k e f = by-role (eqb (x .role) SingleNumber) (eqb (x .role) dense) (among (array ∷ dialect ∷ Value ∷ []) (x .role)) refl refl refl
+  at-value at (x ∷ xs) k e f = by-role (eqb (x .role) SingleNumber) (eqb (x .role) dense) (amongSymbols (array ∷ dialect ∷ Value ∷ []) (x .role)) refl refl refl
     where
-      other : among others (x .role) ≡ true → ⊥
+      other : amongSymbols others (x .role) ≡ true → ⊥
       other r =
           let z : kindOf text (x .token) ≡ NUMBER = rw (f .0) k in
           let m : matches (x .role) NUMBER ≡ true = rw z at (f .1) in
           not-both m (not-number (x .role) r)
 
-      by-role : (b c d : Bool) → eqb (x .role) SingleNumber ≡ b → eqb (x .role) dense ≡ c → among (array ∷ dialect ∷ Value ∷ []) (x .role) ≡ d → Fits (tokenAt text at .start)
+      by-role : (b c d : Bool) → eqb (x .role) SingleNumber ≡ b → eqb (x .role) dense ≡ c → amongSymbols (array ∷ dialect ∷ Value ∷ []) (x .role) ≡ d → Fits (tokenAt text at .start)
       by-role true c d q r s = subst (λ (t : Token). Fits (t .start)) (f .0) (single x (f .2) (eqb-true (x .role) SingleNumber q))
       by-role false true d q r s = absurd (other (rw r))
       by-role false false true q r s = absurd (other (rw (r, s)))
@@ -147,7 +147,7 @@ module _ (text : List ℕ) where
 
   -- the attribute whose name is at a byte: where its value is a number, that lies in the range
   abbrev pub NumberStands : ℕ → Type 0
-  NumberStands name = formAt text name ≡ Number → Fits (valueAt text name .start)
+  NumberStands name = formAt text name ≡ Number → Fits (valueToken text name .start)
 
   at-name : (at : ℕ) (x : Reading) (xs : List Reading) → x .token ≡ tokenAt text at → run 1 (rolesOf xs) ≡ 0 → Follow (x .token .end) xs → NumberStands (x .token .start)
   unfolding tokenAfter
@@ -173,8 +173,8 @@ module _ (text : List ℕ) where
   unfolding passes largeNumber
   in-range s x g w =
       let a = passes-none text s x (g .sized) in
-      let k : not (patternIn (numberOf text (x .token .start)) .fits) ≡ false = rw w at (a .1 .1 .1 .1 .1 .1 .0) in
-      fits-range (numberOf text (x .token .start)) (not-false _ k)
+      let k : not (patternIn (decimalNumber text (x .token .start)) .fits) ≡ false = rw w at (a .1 .1 .1 .1 .1 .1 .0) in
+      fits-range (decimalNumber text (x .token .start)) (not-false _ k)
 
   each-in-range : (s : Tally) (xs : List Reading) → Each text s xs → All InRange xs
   each-in-range s [] e = tt
@@ -201,6 +201,6 @@ module _ (text : List ℕ) (read : textRefusal text .number ≡ 0) where
 
   -- and is the number that is read
   pub number-written : (k : ℕ) → k + 1 < programOf text .count → (j : ℕ) → j < countOf (op k) attributeName → j < 8 → formAt text (placeOf (op k) attributeName j) ≡ Number →
-      numberAt text (placeOf (op k) attributeName j) ≡ patternOf (numberOf text (valueAt text (placeOf (op k) attributeName j) .start))
+      numberAt text (placeOf (op k) attributeName j) ≡ patternOf (decimalNumber text (valueToken text (placeOf (op k) attributeName j) .start))
   unfolding numberAt
-  number-written k h j l m form = pattern-written text (valueAt text (placeOf (op k) attributeName j) .start) (number-in-range k h j l m form)
+  number-written k h j l m form = pattern-written text (valueToken text (placeOf (op k) attributeName j) .start) (number-in-range k h j l m form)

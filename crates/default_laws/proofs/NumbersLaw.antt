@@ -16,8 +16,8 @@ use Rattle.text.specs.Lex.{tokenAt}
 use Rattle.text.specs.Names.{wordIs}
 use Rattle.text.specs.declared.Token.{Token}
 use Rattle.shape.specs.Whole.{patternOf}
-use Rattle.types.specs.Numbers.{numberOf}
-use Rattle.grammar.specs.Symbols.{END, NUMBER, FUNC, DIALECT, TYPE, ARROW, OTHER, ARRAY, LPAREN, RPAREN, LBRACE, RBRACE, LANGLE, RANGLE, LBRACKET, RBRACKET, COMMA, COLON, EQUALS, AttributeName, SingleNumber, ListNumber, langle, rangle, comma, colon, equals, dialect, array, dense, i64, Value, Numbers as NumberItems, MoreNumbers, among, matches, leafKinds}
+use Rattle.types.specs.Numbers.{decimalNumber}
+use Rattle.grammar.specs.Symbols.{END, NUMBER, FUNC, DIALECT, TYPE, ARROW, OTHER, ARRAY, LPAREN, RPAREN, LBRACE, RBRACE, LANGLE, RANGLE, LBRACKET, RBRACKET, COMMA, COLON, EQUALS, AttributeName, SingleNumber, ListNumber, langle, rangle, comma, colon, equals, dialect, array, dense, i64, Value, Numbers as NumberItems, MoreNumbers, amongSymbols, matches, leafKinds}
 use Rattle.grammar.specs.Grammar.{Production, grammar}
 use Rattle.grammar.specs.Derivation.{_∈_}
 use Rattle.grammar.specs.Leaves.{Yields, nothing, itself, right, StandFor}
@@ -33,10 +33,10 @@ use Rattle.syntax.proofs.Labelling.{Reads, stop, read, whole, reads-gives}
 use Rattle.syntax.proofs.AloneLaw.{token-again}
 use Rattle.syntax.proofs.OutlineLaw.{reads-yields}
 use Rattle.syntax.proofs.Theorems.{no-fault}
-use Rattle.optable.specs.Table.{Numbers as NumberList, choiceKinds, choiceForm}
+use Rattle.optable.specs.Table.{NumbersKind as NumberList, choiceKinds, choiceForm}
 use Rattle.attribute.specs.declared.Numbers.{Numbers}
-use Rattle.attribute.specs.Attribute.{tokenAfter, wordForm, choiceAt, formAt, noNumbers, withNumber, goesOn, numbersFrom, numbersAt}
-use Rattle.judge.specs.Roles.{among as amongRoles}
+use Rattle.attribute.specs.Attribute.{tokenAfter, wordForm, choiceAt, formAt, noneRead, withNumber, goesOn, numbersFrom, numbersAt}
+use Rattle.judge.specs.Roles.{amongRoles}
 use Rattle.judge.specs.Judge.{textRefusal}
 use Rattle.judge.proofs.Theorems.{accepted-sentence}
 use Rattle.part_laws.proofs.ItemLaw.{Chain, none, more}
@@ -56,7 +56,7 @@ use Rattle.default_laws.proofs.ListLaw.{six-numbers}
 abbrev next : ℕ → ℕ → ℕ
 next zero r = pick (eqb r AttributeName) 1 0
 next (suc zero) r = pick (eqb r equals) 2 9
-next (suc (suc zero)) r = pick (eqb r array) 3 (pick (among (SingleNumber ∷ dense ∷ dialect ∷ Value ∷ []) r) 0 9)
+next (suc (suc zero)) r = pick (eqb r array) 3 (pick (amongSymbols (SingleNumber ∷ dense ∷ dialect ∷ Value ∷ []) r) 0 9)
 next (suc (suc (suc zero))) r = pick (eqb r langle) 4 9
 next (suc (suc (suc (suc zero)))) r = pick (eqb r i64) 5 9
 next (suc (suc (suc (suc (suc zero))))) r = pick (eqb r rangle) 0 (pick (eqb r colon) 6 (pick (eqb r NumberItems) 8 9))
@@ -119,7 +119,7 @@ pick-small false x y h g = g
 next-small : (s r : ℕ) → next s r ≤ 9
 next-small zero r = pick-small (eqb r AttributeName) 1 0 (omega arith) (omega arith)
 next-small (suc zero) r = pick-small (eqb r equals) 2 9 (omega arith) (omega arith)
-next-small (suc (suc zero)) r = pick-small (eqb r array) 3 _ (omega arith) (pick-small (among (SingleNumber ∷ dense ∷ dialect ∷ Value ∷ []) r) 0 9 (omega arith) (omega arith))
+next-small (suc (suc zero)) r = pick-small (eqb r array) 3 _ (omega arith) (pick-small (amongSymbols (SingleNumber ∷ dense ∷ dialect ∷ Value ∷ []) r) 0 9 (omega arith) (omega arith))
 next-small (suc (suc (suc zero))) r = pick-small (eqb r langle) 4 9 (omega arith) (omega arith)
 next-small (suc (suc (suc (suc zero)))) r = pick-small (eqb r i64) 5 9 (omega arith) (omega arith)
 next-small (suc (suc (suc (suc (suc zero))))) r =
@@ -162,9 +162,9 @@ byteOf n = pick (eqb n RANGLE) 62 (pick (eqb n COMMA) 44 58)
 
 -- a token of kind k in the text has a mark's kind n in the grammar only as that mark's byte
 record Back (k n : ℕ) : Type 0 where
-  back : among marks n ≡ true → k ≡ byteOf n
+  back : amongSymbols marks n ≡ true → k ≡ byteOf n
 
-other : (k n : ℕ) → among marks n ≡ false → Back k n
+other : (k n : ℕ) → amongSymbols marks n ≡ false → Back k n
 other k n e = record { back = λ m. absurd (not-both m e) }
 
 either : (k : ℕ) (b : Bool) (x y : ℕ) → Back k x → Back k y → Back k (pick b x y)
@@ -207,8 +207,8 @@ kind-back text t =
     either k (eqb k 0) END _ (other k END refl)
     (either k (eqb k 1) _ _ (word-back k text (t .start) (t .end)) (either k (eqb k 3) _ _ (name-back k _) (either k (eqb k 6) _ _ (quoted-back k text (t .start) (t .end)) (mark-back k))))
 
-mark-byte : (text : List ℕ) (t : Token) (n : ℕ) → kindOf text t ≡ n → among marks n ≡ true → t .kind ≡ byteOf n
-mark-byte text t n e m = subst (λ (n : ℕ). among marks n ≡ true → t .kind ≡ byteOf n) e (kind-back text t .back) m
+mark-byte : (text : List ℕ) (t : Token) (n : ℕ) → kindOf text t ≡ n → amongSymbols marks n ≡ true → t .kind ≡ byteOf n
+mark-byte text t n e m = subst (λ (n : ℕ). amongSymbols marks n ≡ true → t .kind ≡ byteOf n) e (kind-back text t .back) m
 
 -- a role that tokens of one kind have
 only-kind : (r n k : ℕ) → getD leafKinds r [] ≡ n ∷ [] → matches r k ≡ true → k ≡ n
@@ -223,12 +223,12 @@ only-kind r n k e m = go (eqb k n) refl (rw e at m)
 abbrev others : List ℕ
 others = SingleNumber ∷ dense ∷ dialect ∷ Value ∷ []
 
-not-array : (r : ℕ) → among others r ≡ true → matches r ARRAY ≡ false
+not-array : (r : ℕ) → amongSymbols others r ≡ true → matches r ARRAY ≡ false
 unfolding matches leafKinds
 not-array r a = no-T (matches r ARRAY) (member-passes (λ r. not (matches r ARRAY)) others r tt (true-T _ a))
 
 -- a symbol that productions define is no token's role
-not-role : (r : ℕ) → among (NumberItems ∷ MoreNumbers ∷ []) r ≡ true → (k : ℕ) → matches r k ≡ false
+not-role : (r : ℕ) → amongSymbols (NumberItems ∷ MoreNumbers ∷ []) r ≡ true → (k : ℕ) → matches r k ≡ false
 unfolding matches leafKinds
 not-role r a k = no-T (matches r k) (member-passes (λ r. not (matches r k)) (NumberItems ∷ MoreNumbers ∷ []) r tt (true-T _ a))
 
@@ -274,9 +274,9 @@ none-left vs n rest e = ap (λ (n : ℕ). filled vs n) e ∙ ap (λ (l : List �
 module _ (text : List ℕ) where
   -- a number as it is written, as a 64-bit pattern
   abbrev pub written : ℕ → ℕ
-  written start = patternOf (numberOf text start)
+  written start = patternOf (decimalNumber text start)
 
-  goes-on : (mark : ℕ) (t : Token) → among (COMMA ∷ COLON ∷ []) mark ≡ true → kindOf text t ≡ mark → goesOn (t .kind) ≡ true
+  goes-on : (mark : ℕ) (t : Token) → amongSymbols (COMMA ∷ COLON ∷ []) mark ≡ true → kindOf text t ≡ mark → goesOn (t .kind) ≡ true
   unfolding goesOn
   goes-on mark t m e = by-mark (eqb mark COMMA) (eqb mark COLON) refl refl m
     where
@@ -290,7 +290,7 @@ module _ (text : List ℕ) where
   ends t e = rw (mark-byte text t RANGLE e refl)
 
   -- all numbers of a list are read, and nothing else
-  all-read-from : (n rest mark at : ℕ) (starts vs : List ℕ) → among (COMMA ∷ COLON ∷ []) mark ≡ true → Listed text mark at starts →
+  all-read-from : (n rest mark at : ℕ) (starts vs : List ℕ) → amongSymbols (COMMA ∷ COLON ∷ []) mark ≡ true → Listed text mark at starts →
       length starts + rest ≡ n → length vs + n ≡ 6 → numbersFrom n (filled vs n) text at ≡ filled (vs ++ map written starts) rest
   unfolding numbersFrom
   all-read-from zero rest mark at [] vs m (closed e) h g = let z : 0 ≡ rest = omega arith in none-left vs 0 rest z
@@ -439,9 +439,9 @@ module _ (text : List ℕ) where
   at-value : (at : ℕ) (xs : List Reading) → kindOf text (tokenAt text at) ≡ ARRAY → run 2 (rolesOf xs) ≡ 0 → Follow at xs → AtMostSix (tokenAfter 2 text at .end)
   unfolding tokenAfter
   at-value at [] k e f = absurd (omega arith)
-  at-value at (x ∷ xs) k e f = by-role (eqb (x .role) array) (among others (x .role)) refl refl
+  at-value at (x ∷ xs) k e f = by-role (eqb (x .role) array) (amongSymbols others (x .role)) refl refl
     where
-      by-role : (b c : Bool) → eqb (x .role) array ≡ b → among others (x .role) ≡ c → AtMostSix (tokenAfter 2 text at .end)
+      by-role : (b c : Bool) → eqb (x .role) array ≡ b → amongSymbols others (x .role) ≡ c → AtMostSix (tokenAfter 2 text at .end)
       by-role true c q r =
           let a = take 3 4 langle (tokenAt text at .end) xs (λ r. refl) (omega arith) (next-run 2 3 (x .role) (rolesOf xs) (rw q) e) (f .4) in
           let b = take 4 5 i64 (tokenAt text (tokenAt text at .end) .end) (a .others) (λ r. refl) (omega arith) (a .runs) (a .follow .4) in
@@ -502,7 +502,7 @@ module _ (text : List ℕ) (read : textRefusal text .number ≡ 0) where
       (form : formAt text (placeOf (op k) attributeName j) ≡ NumberList) →
       let starts = list-written k h j l m form .starts in
       numbersAt text (placeOf (op k) attributeName j) ≡ filled (map (written text) starts) (6 - length starts)
-  unfolding numbersAt noNumbers
+  unfolding numbersAt noneRead
   list-read k h j l m form =
       let s = list-written k h j l m form in
       let n = s .few in

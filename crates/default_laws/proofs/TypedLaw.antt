@@ -22,7 +22,7 @@ use Rattle.values.specs.declared.Value.{Value}
 use Rattle.attributes.specs.Attributes.{stands, neededAt, choiceOf}
 use Rattle.attributes.proofs.AttributesLaw.{attributes-needed}
 use Rattle.bodies.specs.Bodies.{bodyFits}
-use Rattle.typing.specs.Typing.{rowOf, resultsAre, bodiesFit, typedOp}
+use Rattle.typing.specs.Typing.{rowNamedIn, resultsAre, bodiesFit, typedOp}
 use Rattle.nodes.proofs.TypedLaw.{typed-parts, typed-direction}
 
 module _ (text : List ℕ) (op : Parts) (row : Row) (values : List Value) (n : ℕ) (typed : typedOp text op row values n ≡ true) where
@@ -67,6 +67,6 @@ directed c e = by-place (ltb c noChoice) refl e
     by-place false t e = absurd (omega arith)
 
 -- "comparison_direction" must stand, with a choice of its kind: a compare that is typed has a direction, and EQ for none is not read
-pub compare-directed : (text : List ℕ) (op : Parts) (values : List Value) (n : ℕ) → typedOp text op (rowOf text op) values n ≡ true → rowOf text op .class ≡ Compare →
+pub compare-directed : (text : List ℕ) (op : Parts) (values : List Value) (n : ℕ) → typedOp text op (rowNamedIn text op) values n ≡ true → rowNamedIn text op .class ≡ Compare →
     Directed (choiceOf text op comparisonDirection)
 compare-directed text op values n typed e = directed (choiceOf text op comparisonDirection) (typed-direction text op values n typed e)

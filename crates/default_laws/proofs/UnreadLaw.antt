@@ -13,7 +13,7 @@ use Rattle.lists.specs.Lists.{allBelow, firstWhere}
 use Rattle.lists.proofs.TestLaw.{both-true}
 use Rattle.lists.proofs.TabLaw.{tab-cong}
 use Rattle.lists.proofs.SearchLaw.{all-at}
-use Rattle.optable.specs.Names.{same, placeIn}
+use Rattle.optable.specs.Names.{same, namePlace}
 use Rattle.optable.specs.Table.{attributes, attributeNames, value, compareType, ops, rowAt}
 use Rattle.optable.specs.Find.{slotIn}
 use Rattle.optable.specs.declared.Row.{Row}
@@ -29,7 +29,7 @@ use Rattle.program.specs.declared.Parts.{Parts}
 use Rattle.places.specs.Places.{opName, placeOf}
 use Rattle.values.specs.declared.Value.{Value}
 use Rattle.bodies.specs.Bodies.{rowNamed}
-use Rattle.typing.specs.Typing.{rowOf, operationOf, inTable, typedOp}
+use Rattle.typing.specs.Typing.{rowNamedIn, operationOf, inTable, typedOp}
 use Rattle.nodes.proofs.TypedLaw.{typed-parts}
 use Rattle.default_laws.specs.Unread.{AsFar}
 use Rattle.default_laws.proofs.EverywhereLaw.{everywhere-same}
@@ -101,7 +101,7 @@ abbrev hasNamed : Row → Bool
 hasNamed row = leb (operandsNamed (row .rule)) (row .least) && leb (numbersNamed (row .rule)) (row .needed) && elseNamed (row .rule) row
 
 all-have : allBelow (length ops) (λ i. hasNamed (rowAt i)) ≡ true
-unfolding allBelow rowAt ops slotIn firstWhere placeIn attributeNames attributes same
+unfolding allBelow rowAt ops slotIn firstWhere namePlace attributeNames attributes same
 all-have = refl
 
 -- ---- the constraints
@@ -159,11 +159,11 @@ missing-unread i l o q least s =
     by-rule row o q s (row .rule) (omega arith) k (h .1)
 
 -- so of an op that is typed: what stands for a type or a number that its row has no place for is not read
-pub typed-unread : (text : List ℕ) (op : Parts) (values : List Value) (n : ℕ) → typedOp text op (rowOf text op) values n ≡ true → (q : Operation) →
-    AsFar (rowOf text op) (operationOf text op (rowOf text op)) q → brokenBy (rowOf text op .rule) (operationOf text op (rowOf text op)) ≡ brokenBy (rowOf text op .rule) q
-unfolding rowOf inTable takenByTables
+pub typed-unread : (text : List ℕ) (op : Parts) (values : List Value) (n : ℕ) → typedOp text op (rowNamedIn text op) values n ≡ true → (q : Operation) →
+    AsFar (rowNamedIn text op) (operationOf text op (rowNamedIn text op)) q → brokenBy (rowNamedIn text op .rule) (operationOf text op (rowNamedIn text op)) ≡ brokenBy (rowNamedIn text op .rule) q
+unfolding rowNamedIn inTable takenByTables
 typed-unread text op values n typed q s =
-    let row = rowOf text op in
+    let row = rowNamedIn text op in
     let o = operationOf text op row in
     let t = typed-parts text op row values n typed in
     let few = leb (row .least) (o .arity) in

@@ -9,7 +9,7 @@ use native.Mathlib.Omega.{arith}
 use lib.Dec.{T}
 use lib.ListN.{getD}
 use borrow.Author.Tests.{lt-ltb, le-ltb}
-use Rattle.grammar.specs.Symbols.{among}
+use Rattle.grammar.specs.Symbols.{amongSymbols}
 use Rattle.grammar.proofs.TableTest.{both-left, both-right, both-make}
 use Rattle.grammar.proofs.Within.{allIn, allPass, member-passes, yields-within}
 use Rattle.syntax.specs.Roles.{rolesOf}
@@ -35,7 +35,7 @@ use Rattle.default_laws.proofs.EarlierLaw.{AllPass, one-result-before}
 pass-in : (f : ℕ → Bool) (set ls : List ℕ) → T (allPass f set) → T (allIn set ls) → T (allPass f ls)
 pass-in f set [] t u = tt
 pass-in f set (l ∷ ls) t u =
-    both-make (f l) (allPass f ls) (member-passes f set l t (both-left (among set l) (allIn set ls) u)) (pass-in f set ls t (both-right (among set l) (allIn set ls) u))
+    both-make (f l) (allPass f ls) (member-passes f set l t (both-left (amongSymbols set l) (allIn set ls) u)) (pass-in f set ls t (both-right (amongSymbols set l) (allIn set ls) u))
 
 module _ (text : List ℕ) (o : Outline text) where
   header-flat : T (allPass flat (rolesOf (o .header)))

@@ -9,7 +9,7 @@ use native.Mathlib.Omega.{arith}
 use lib.Dec.{T, ltb}
 use lib.ListN.{getD}
 use borrow.Author.Tests.{lt-ltb}
-use Rattle.grammar.specs.Symbols.{among}
+use Rattle.grammar.specs.Symbols.{amongSymbols}
 use Rattle.grammar.proofs.Within.{member-passes}
 use Rattle.optable.specs.Table.{ops, opNames}
 use Rattle.judge.specs.Judge.{textRefusal}
@@ -26,9 +26,9 @@ use Rattle.reading_laws.proofs.OpsLaw.{read-program}
 use Rattle.part_laws.specs.Granted.{typeParts, TypesStand}
 use Rattle.part_laws.proofs.StandLaw.{type-said}
 use Rattle.part_laws.proofs.GrantedLaw.{header-granted, op-granted, name-granted}
-use Rattle.default_laws.specs.Written.{said, Written}
+use Rattle.default_laws.specs.Written.{said, TypesWritten}
 
-stands-said : (text : List ℕ) (p : Parts) → TypesStand text p → (k j : ℕ) → T (among typeParts k) → j < countOf p k → j < 8 → typeOfPart text p k j ≡ said text (placeOf p k j)
+stands-said : (text : List ℕ) (p : Parts) → TypesStand text p → (k j : ℕ) → T (amongSymbols typeParts k) → j < countOf p k → j < 8 → typeOfPart text p k j ≡ said text (placeOf p k j)
 unfolding typeOfPart
 stands-said text p s k j t l m = type-said text (placeOf p k j) (s k j t l m)
 
@@ -47,21 +47,21 @@ module _ (text : List ℕ) (read : textRefusal text .number ≡ 0) where
   -- ---- `tensor<i1>` for a type that is refused: "a .. type not in this paper" is refusal 3, and sizes 1 and 2 are refusal 4
 
   -- the types of an op's operands and results, the return's too
-  pub type-written : (k : ℕ) → k < p .count → Written text (op k) (operandType ∷ resultType ∷ [])
+  pub type-written : (k : ℕ) → k < p .count → TypesWritten text (op k) (operandType ∷ resultType ∷ [])
   type-written k h part j t l =
       let g = op-granted text read k h in
-      let few = g .few part (member-passes (among (resultName ∷ operandName ∷ operandType ∷ resultType ∷ [])) (operandType ∷ resultType ∷ []) part tt t) in
-      stands-said text (op k) (g .types) part j (member-passes (among typeParts) (operandType ∷ resultType ∷ []) part tt t) l (omega arith)
+      let few = g .few part (member-passes (amongSymbols (resultName ∷ operandName ∷ operandType ∷ resultType ∷ [])) (operandType ∷ resultType ∷ []) part tt t) in
+      stands-said text (op k) (g .types) part j (member-passes (amongSymbols typeParts) (operandType ∷ resultType ∷ []) part tt t) l (omega arith)
 
   -- the types of the inputs and the outputs
-  pub header-written : Written text (p .header) (inputType ∷ outputType ∷ [])
+  pub header-written : TypesWritten text (p .header) (inputType ∷ outputType ∷ [])
   header-written part j t l =
       let g = header-granted text read in
-      let few = g .few part (member-passes (among (inputName ∷ inputType ∷ outputType ∷ [])) (inputType ∷ outputType ∷ []) part tt t) in
-      stands-said text (p .header) (g .types) part j (member-passes (among typeParts) (inputType ∷ outputType ∷ []) part tt t) l (omega arith)
+      let few = g .few part (member-passes (amongSymbols (inputName ∷ inputType ∷ outputType ∷ [])) (inputType ∷ outputType ∷ []) part tt t) in
+      stands-said text (p .header) (g .types) part j (member-passes (amongSymbols typeParts) (inputType ∷ outputType ∷ []) part tt t) l (omega arith)
 
   -- the types in a body, of each part the first eight (a body of the form has at most three of each)
-  pub body-written : (k i : ℕ) → k < p .count → i < countOf (op k) bodyOpen → i < 8 → (part j : ℕ) → T (among typeParts part) →
+  pub body-written : (k i : ℕ) → k < p .count → i < countOf (op k) bodyOpen → i < 8 → (part j : ℕ) → T (amongSymbols typeParts part) →
       j < countOf (bodyAt text (placeOf (op k) bodyOpen i)) part → j < 8 →
       typeOfPart text (bodyAt text (placeOf (op k) bodyOpen i)) part j ≡ said text (placeOf (bodyAt text (placeOf (op k) bodyOpen i)) part j)
   body-written k i h l m part j t = stands-said text (bodyAt text (placeOf (op k) bodyOpen i)) (op-granted text read k h .bodies i l m) part j t

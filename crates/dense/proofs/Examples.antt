@@ -14,8 +14,8 @@ use Rattle.text.specs.Names.{wordIs}
 use Rattle.element.specs.Types.{slotFor}
 use Rattle.element.specs.declared.ElementType.{ElementType}
 use Rattle.element.specs.declared.ElementType.the-variants.{I1, I8, I32, U8}
-use Rattle.types.specs.Numbers.{digitsFrom, magnitudeOf, numberOf, inType, numberIn}
-use Rattle.dense.specs.Dense.{booleanOf, literalOf, andThen, markAt, before, oneAt, itemsAt, denseAt, sameAt, denseValue}
+use Rattle.types.specs.Numbers.{digitsFrom, magnitudeOf, decimalNumber, inType, numberIn}
+use Rattle.dense.specs.Dense.{booleanOf, literalOf, readThen, markAt, commaBefore, oneAt, itemsAt, denseAt, sameLiteral, denseValue}
 
 record Case : Type 0 where
   element : ElementType
@@ -43,7 +43,7 @@ read : map elementsOf
     (slotFor I8 (negℤ (pos 128)) ∷ 127 ∷ []) ∷
     (1 ∷ 0 ∷ []) ∷
     (7 ∷ []) ∷ []
-unfolding isLetter isDigit isSpace isSigil isSign inRun runFrom runEnd startsWith inComment skipFrom skipEnd signEnd markToken signToken plainWord wordToken lexeme tokenAt wordIs digitsFrom magnitudeOf numberOf inType numberIn booleanOf literalOf andThen markAt before oneAt itemsAt denseAt sameAt denseValue slotFor
+unfolding isLetter isDigit isSpace isSigil isSign inRun runFrom runEnd startsWith inComment skipFrom skipEnd signEnd markToken signToken plainWord wordToken lexeme tokenAt wordIs digitsFrom magnitudeOf decimalNumber inType numberIn booleanOf literalOf readThen markAt commaBefore oneAt itemsAt denseAt sameLiteral denseValue slotFor
 read = refl
 
 -- "(`[[], []]` for 2x0, `[]` for 0x2)", one literal where there is no element
@@ -52,7 +52,7 @@ allowed : map fits
     value I8 (0 ∷ 2 ∷ []) "[]>" ∷
     value I8 (0 ∷ []) "5>" ∷ [])
     ≡ true ∷ true ∷ true ∷ []
-unfolding isLetter isDigit isSpace isSigil isSign inRun runFrom runEnd startsWith inComment skipFrom skipEnd signEnd markToken signToken plainWord wordToken lexeme tokenAt wordIs digitsFrom magnitudeOf numberOf inType numberIn booleanOf literalOf andThen markAt before oneAt itemsAt denseAt sameAt denseValue
+unfolding isLetter isDigit isSpace isSigil isSign inRun runFrom runEnd startsWith inComment skipFrom skipEnd signEnd markToken signToken plainWord wordToken lexeme tokenAt wordIs digitsFrom magnitudeOf decimalNumber inType numberIn booleanOf literalOf readThen markAt commaBefore oneAt itemsAt denseAt sameLiteral denseValue
 allowed = refl
 
 -- other sizes: the empty lists the other way round, one item too many or too few, a list for an element, a bracket for rank 0;
@@ -71,5 +71,5 @@ refused : map fits
     value I8 (0 ∷ []) "300>" ∷
     value I8 (0 ∷ []) "true>" ∷ [])
     ≡ false ∷ false ∷ false ∷ false ∷ false ∷ false ∷ false ∷ false ∷ false ∷ false ∷ false ∷ false ∷ []
-unfolding isLetter isDigit isSpace isSigil isSign inRun runFrom runEnd startsWith inComment skipFrom skipEnd signEnd markToken signToken plainWord wordToken lexeme tokenAt wordIs digitsFrom magnitudeOf numberOf inType numberIn booleanOf literalOf andThen markAt before oneAt itemsAt denseAt sameAt denseValue
+unfolding isLetter isDigit isSpace isSigil isSign inRun runFrom runEnd startsWith inComment skipFrom skipEnd signEnd markToken signToken plainWord wordToken lexeme tokenAt wordIs digitsFrom magnitudeOf decimalNumber inType numberIn booleanOf literalOf readThen markAt commaBefore oneAt itemsAt denseAt sameLiteral denseValue
 refused = refl

@@ -12,25 +12,25 @@ use Rattle.lists.specs.Lists.{pick, All, tab}
 use Rattle.lists.proofs.TabLaw.{length-tab}
 use Rattle.lists.proofs.AllLaw.{all-append, all-tab}
 use Rattle.text.specs.Lex.{tokenAt}
-use Rattle.element.specs.Types.{Value}
+use Rattle.element.specs.Types.{SlotHolds}
 use Rattle.element.specs.declared.ElementType.{ElementType}
 use Rattle.shape.specs.Index.{size}
 use Rattle.types.specs.declared.numbers.Number.{Number}
-use Rattle.dense.specs.Dense.{Read, literalOf, andThen, markAt, before, oneAt, itemsAt, denseAt, sameAt, denseValue}
+use Rattle.dense.specs.Dense.{Read, literalOf, readThen, markAt, commaBefore, oneAt, itemsAt, denseAt, sameLiteral, denseValue}
 use Rattle.dense.proofs.LiteralLaw.{literal-value}
 
 -- what is read: n elements, or at most n before the fault, all of them values of the type
 pub record Elements (e : ElementType) (n : ℕ) (r : Read) : Type 0 where
   pub exactly : r .ok ≡ true → length (r .elements) ≡ n
   pub most : length (r .elements) ≤ n
-  pub values : All (Value e) (r .elements)
+  pub values : All (SlotHolds e) (r .elements)
 
 module _ (e : ElementType) where
   none : (r : Read) → r .elements ≡ [] → Elements e 0 r
   none r h = let l : length (r .elements) ≡ 0 = rw h in record { exactly = λ o. l; most = omega arith; values = rw h tt }
 
-  then-elements : (m n : ℕ) (r : Read) (f : ℕ → Read) → Elements e m r → ((a : ℕ) → Elements e n (f a)) → Elements e (m + n) (andThen r f)
-  unfolding andThen
+  then-elements : (m n : ℕ) (r : Read) (f : ℕ → Read) → Elements e m r → ((a : ℕ) → Elements e n (f a)) → Elements e (m + n) (readThen r f)
+  unfolding readThen
   then-elements m n r f x y = go (r .ok) refl
     where
       s : Read
@@ -42,7 +42,7 @@ module _ (e : ElementType) where
           record {
             exactly = λ o. omega (arith, x .exactly h, y (r .next) .exactly o);
             most = omega (arith, x .most, y (r .next) .most);
-            values = all-append (Value e) (r .elements) (s .elements) (x .values) (y (r .next) .values);
+            values = all-append (SlotHolds e) (r .elements) (s .elements) (x .values) (y (r .next) .values);
           }
       go false h = record {
         exactly = λ o. let z : _≡_ {A = ℕ} 0 1 = cc in absurd (omega arith);
@@ -51,19 +51,19 @@ module _ (e : ElementType) where
       }
 
   items-elements : (n : ℕ) (item : ℕ → Read) (text : List ℕ) → ((a : ℕ) → Elements e n (item a)) → (d : ℕ) (first : Bool) (at : ℕ) → Elements e (d * n) (itemsAt item d first text at)
-  unfolding itemsAt markAt before
+  unfolding itemsAt markAt commaBefore
   items-elements n item text y zero first at = rw (zero-mul n) (none _ refl)
   items-elements n item text y (suc d) first at =
       let m : suc d * n ≡ 0 + (n + d * n) = suc-mul d n ∙ omega arith in
       rw m (then-elements 0 (n + d * n) _ _ (none _ refl) (λ a. then-elements n (d * n) _ _ (y a) (λ b. items-elements n item text y d false b)))
 
   -- the slot of one literal n times
-  same-elements : (n : ℕ) (v : Number) (next : ℕ) → (v .fits ≡ true → Value e (v .bits)) → Elements e n (record { ok = v .fits; elements = pick (v .fits) (tab n (λ k. v .bits)) []; next = next })
+  same-elements : (n : ℕ) (v : Number) (next : ℕ) → (v .fits ≡ true → SlotHolds e (v .bits)) → Elements e n (record { ok = v .fits; elements = pick (v .fits) (tab n (λ k. v .bits)) []; next = next })
   same-elements n v next h = go (v .fits) h
     where
-      go : (b : Bool) → (b ≡ true → Value e (v .bits)) → Elements e n (record { ok = b; elements = pick b (tab n (λ k. v .bits)) []; next = next })
+      go : (b : Bool) → (b ≡ true → SlotHolds e (v .bits)) → Elements e n (record { ok = b; elements = pick b (tab n (λ k. v .bits)) []; next = next })
       go true h = let l : length (tab n (λ k. v .bits)) ≡ n = length-tab n (λ k. v .bits) in
-          record { exactly = λ o. l; most = omega arith; values = all-tab (Value e) n (λ k. v .bits) (λ i q. h refl) }
+          record { exactly = λ o. l; most = omega arith; values = all-tab (SlotHolds e) n (λ k. v .bits) (λ i q. h refl) }
       go false h = record { exactly = λ o. let z : _≡_ {A = ℕ} 0 1 = cc in absurd (omega arith); most = omega arith; values = tt }
 
   pub dense-elements : (dims text : List ℕ) (at : ℕ) → Elements e (size dims) (denseAt e dims text at)
@@ -73,10 +73,10 @@ module _ (e : ElementType) where
       rw (← zero-add (d * size ds)) (then-elements 0 (d * size ds) _ _ (none _ refl) (λ a. items-elements (size ds) _ text (λ b. dense-elements ds text b) d true a))
 
   pub value-elements : (dims text : List ℕ) (at : ℕ) → Elements e (size dims) (denseValue e dims text at)
-  unfolding denseValue sameAt
+  unfolding denseValue sameLiteral
   value-elements dims text at = go (eqb (tokenAt text at .kind) 91)
     where
-      go : (b : Bool) → Elements e (size dims) (pick b (denseAt e dims text at) (sameAt e dims text at))
+      go : (b : Bool) → Elements e (size dims) (pick b (denseAt e dims text at) (sameLiteral e dims text at))
       go true = dense-elements dims text at
       go false = same-elements (size dims) (literalOf e text (tokenAt text at)) (tokenAt text at .end) (literal-value e text (tokenAt text at))
 
@@ -85,5 +85,5 @@ module _ (e : ElementType) (dims text : List ℕ) (at : ℕ) (h : denseValue e d
   pub dense-length : length (denseValue e dims text at .elements) ≡ size dims
   dense-length = value-elements e dims text at .exactly h
 
-  pub dense-values : All (Value e) (denseValue e dims text at .elements)
+  pub dense-values : All (SlotHolds e) (denseValue e dims text at .elements)
   dense-values = value-elements e dims text at .values

@@ -16,7 +16,7 @@ use Rattle.shape.proofs.DimensionLaw.{rest-cons, rest-all}
 use Rattle.laid.specs.Laid.{Laid, laid, lay}
 use Rattle.laid.proofs.LaidLaw.{lay-append}
 use Rattle.dense.specs.declared.Reading.{Reading}
-use Rattle.dense.specs.Dense.{Read, andThen, markAt, before, oneAt, itemsAt, denseAt}
+use Rattle.dense.specs.Dense.{Read, readThen, markAt, commaBefore, oneAt, itemsAt, denseAt}
 use Rattle.dense.specs.Filled.{Outcome, outcome, after, readingOf}
 
 module _ (r : Read) (f : ℕ → Read) (l : Laid) (p : Reading) (m : List ℕ) (e : outcome p m ≡ after r l) where
@@ -24,16 +24,16 @@ module _ (r : Read) (f : ℕ → Read) (l : Laid) (p : Reading) (m : List ℕ) (
   unfolding after
   ok-of = ap (λ (o : Outcome). o .ok) e
 
-  then-ok : p .ok ≡ true → after (f (p .next)) (laid (p .place) m) ≡ after (andThen r f) l
-  unfolding after andThen
+  then-ok : p .ok ≡ true → after (f (p .next)) (laid (p .place) m) ≡ after (readThen r f) l
+  unfolding after readThen
   then-ok h =
       let a : r .ok ≡ true = sym ok-of ∙ h in
       let n : p .next ≡ r .next = ap (λ (o : Outcome). o .next) e in
       let s : laid (p .place) m ≡ lay (r .elements) l = ap (λ (o : Outcome). o .slots) e in
       rw (n, s, a, lay-append)
 
-  then-stop : p .ok ≡ false → outcome p m ≡ after (andThen r f) l
-  unfolding andThen
+  then-stop : p .ok ≡ false → outcome p m ≡ after (readThen r f) l
+  unfolding readThen
   then-stop h = e ∙ ap (λ (d : Read). after d l) (pick-second (r .ok) _ r r (sym ok-of ∙ h) refl)
 
 -- marks and separators write nothing
@@ -42,8 +42,8 @@ module _ (text : List ℕ) (at place : ℕ) {p : Reading} (m : List ℕ) where
   unfolding after markAt lay
   mark-read b e = rw e
 
-  before-read : (b : Bool) → p ≡ readingOf (before b text at) place → outcome p m ≡ after (before b text at) (laid place m)
-  unfolding after before lay
+  before-read : (b : Bool) → p ≡ readingOf (commaBefore b text at) place → outcome p m ≡ after (commaBefore b text at) (laid place m)
+  unfolding after commaBefore lay
   before-read b e = rw e
 
 -- the items of a list from item j on: a loop's turn and its end
@@ -53,7 +53,7 @@ module _ (item : ℕ → Read) (size j : ℕ) (text : List ℕ) (at : ℕ) where
   items-end h = let e : size - j ≡ 0 = omega arith in rw e
 
   items-more : j < size → itemsAt item (size - j) (eqb j 0) text at
-      ≡ andThen (before (eqb j 0) text at) (λ a. andThen (item a) (λ b. itemsAt item (size - (j + 1)) (eqb (j + 1) 0) text b))
+      ≡ readThen (commaBefore (eqb j 0) text at) (λ a. readThen (item a) (λ b. itemsAt item (size - (j + 1)) (eqb (j + 1) 0) text b))
   unfolding itemsAt
   items-more h = let e : size - j ≡ suc (size - (j + 1)) = omega arith in rw (e, ne-eqb (j + 1) 0 (λ z. omega arith))
 
@@ -61,7 +61,7 @@ module _ (item : ℕ → Read) (size j : ℕ) (text : List ℕ) (at : ℕ) where
     pub close-items : {p : Reading} → size ≤ j → p ≡ readingOf (markAt 93 text at) place → outcome p m ≡ after (itemsAt item (size - j) (eqb j 0) text at) (laid place m)
     close-items h e = rw (items-end h) (mark-read text at place m 93 e)
 
-    module _ {s : Reading} (h : j < size) (e : s ≡ readingOf (before (eqb j 0) text at) place) where
+    module _ {s : Reading} (h : j < size) (e : s ≡ readingOf (commaBefore (eqb j 0) text at) place) where
       pub no-separator : s .ok ≡ false → outcome s m ≡ after (itemsAt item (size - j) (eqb j 0) text at) (laid place m)
       no-separator n = rw (items-more h) (then-stop _ _ _ _ _ (before-read text at place m (eqb j 0) e) n)
 
@@ -83,7 +83,7 @@ module _ (e : ElementType) (dims : List ℕ) (rank k : ℕ) (text : List ℕ) (a
 
   module _ (p : (k ≡ 0 → ⊥)) (h : k ≤ rank) (l : rank ≤ length dims) where
     dense-open : denseAt e (rest dims rank (rank - k)) text at
-        ≡ andThen (markAt 91 text at) (λ a. itemsAt (λ b. denseAt e (rest dims rank (rank - (k - 1))) text b) (getD dims (rank - k) 0) true text a)
+        ≡ readThen (markAt 91 text at) (λ a. itemsAt (λ b. denseAt e (rest dims rank (rank - (k - 1))) text b) (getD dims (rank - k) 0) true text a)
     unfolding denseAt
     dense-open =
         let q : 0 < k = omega arith in

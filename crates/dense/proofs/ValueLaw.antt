@@ -20,7 +20,7 @@ use Rattle.laid.specs.Laid.{laid}
 use Rattle.laid.proofs.LaidLaw.{lay-front}
 use Rattle.types.specs.declared.numbers.Number.{Number}
 use Rattle.dense.specs.declared.Reading.{Reading}
-use Rattle.dense.specs.Dense.{Read, literalOf, denseAt, sameAt, denseValue}
+use Rattle.dense.specs.Dense.{Read, literalOf, denseAt, sameLiteral, denseValue}
 use Rattle.dense.specs.Filled.{Outcome, outcome, after, filled, filledBy}
 use Rattle.dense.proofs.LengthLaw.{dense-elements}
 
@@ -48,7 +48,7 @@ module _ (e : ElementType) (s : Shape) (text : List ℕ) (at : ℕ) {t : Token} 
 
   module _ (k : t .kind ≡ 91 → ⊥) {v : Number} (l : v ≡ literalOf e text t) where
     as-same : denseValue e (dimsOf s) text at ≡ record { ok = v .fits; elements = pick (v .fits) (tab (size (dimsOf s)) (λ i. v .bits)) []; next = t .end }
-    unfolding denseValue sameAt
+    unfolding denseValue sameLiteral
     as-same = rw (← q, ne-eqb (t .kind) 91 k, ← l)
 
     pub literal-ok : v .fits ≡ denseValue e (dimsOf s) text at .ok

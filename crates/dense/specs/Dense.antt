@@ -12,7 +12,7 @@ use Rattle.text.specs.declared.Token.{Token}
 use Rattle.element.specs.Types.{boolOf}
 use Rattle.element.specs.declared.ElementType.{ElementType}
 use Rattle.shape.specs.Index.{size}
-use Rattle.types.specs.Numbers.{numberOf, numberIn}
+use Rattle.types.specs.Numbers.{decimalNumber, numberIn}
 use Rattle.types.specs.declared.numbers.Number.{Number}
 
 -- "Booleans are `true` and `false`"; no number is one
@@ -25,7 +25,7 @@ booleanOf text t =
 unfoldable pub literalOf : ElementType → List ℕ → Token → Number
 literalOf e text t =
     pick (boolOf e) (booleanOf text t)
-    (pick (eqb (t .kind) 2) (numberIn e (numberOf text (t .start))) (record { fits = false; bits = 0 }))
+    (pick (eqb (t .kind) 2) (numberIn e (decimalNumber text (t .start))) (record { fits = false; bits = 0 }))
 
 -- what is read from a place on: whether it is as it should be, its elements (those before the fault where it is not), and the place after it
 pub record Read : Type 0 where
@@ -34,8 +34,8 @@ pub record Read : Type 0 where
   pub next : ℕ
 
 -- what is read first and, where that is as it should be, what is read after it
-unfoldable pub andThen : Read → (ℕ → Read) → Read
-andThen r f =
+unfoldable pub readThen : Read → (ℕ → Read) → Read
+readThen r f =
     let s = f (r .next) in
     pick (r .ok) (record { ok = s .ok; elements = r .elements ++ s .elements; next = s .next }) r
 
@@ -44,8 +44,8 @@ unfoldable pub markAt : ℕ → List ℕ → ℕ → Read
 markAt b text at = let t = tokenAt text at in record { ok = eqb (t .kind) b; elements = []; next = t .end }
 
 -- what stands before an item: a comma, and nothing before the first
-unfoldable pub before : Bool → List ℕ → ℕ → Read
-before first text at = let t = tokenAt text at in record { ok = first || eqb (t .kind) 44; elements = []; next = pick first at (t .end) }
+unfoldable pub commaBefore : Bool → List ℕ → ℕ → Read
+commaBefore first text at = let t = tokenAt text at in record { ok = first || eqb (t .kind) 44; elements = []; next = pick first at (t .end) }
 
 -- one literal
 unfoldable pub oneAt : ElementType → List ℕ → ℕ → Read
@@ -57,20 +57,20 @@ oneAt e text at =
 -- n items, and the closing bracket
 unfoldable pub itemsAt : (ℕ → Read) → ℕ → Bool → List ℕ → ℕ → Read
 itemsAt item zero first text at = markAt 93 text at
-itemsAt item (suc n) first text at = andThen (before first text at) (λ a. andThen (item a) (λ b. itemsAt item n false text b))
+itemsAt item (suc n) first text at = readThen (commaBefore first text at) (λ a. readThen (item a) (λ b. itemsAt item n false text b))
 
 -- "lists nested one level per dimension with exactly the sizes of the shape (`[[], []]` for 2x0, `[]` for 0x2)"
 unfoldable pub denseAt : ElementType → List ℕ → List ℕ → ℕ → Read
 denseAt e [] text at = oneAt e text at
-denseAt e (d ∷ ds) text at = andThen (markAt 91 text at) (λ a. itemsAt (λ b. denseAt e ds text b) d true text a)
+denseAt e (d ∷ ds) text at = readThen (markAt 91 text at) (λ a. itemsAt (λ b. denseAt e ds text b) d true text a)
 
 -- "one literal for every element", also where there is none: its kind and range are still judged (refusal 7)
-unfoldable pub sameAt : ElementType → List ℕ → List ℕ → ℕ → Read
-sameAt e dims text at =
+unfoldable pub sameLiteral : ElementType → List ℕ → List ℕ → ℕ → Read
+sameLiteral e dims text at =
     let t = tokenAt text at in
     let v = literalOf e text t in
     record { ok = v .fits; elements = pick (v .fits) (tab (size dims) (λ k. v .bits)) []; next = t .end }
 
 -- "one literal for every element, or lists"; "Rank 0 takes only the literal": a bracket is none
 unfoldable pub denseValue : ElementType → List ℕ → List ℕ → ℕ → Read
-denseValue e dims text at = pick (eqb (tokenAt text at .kind) 91) (denseAt e dims text at) (sameAt e dims text at)
+denseValue e dims text at = pick (eqb (tokenAt text at .kind) 91) (denseAt e dims text at) (sameLiteral e dims text at)

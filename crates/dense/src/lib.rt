@@ -9,7 +9,7 @@ ghost use Rattle.text.specs.Names.{wordIs};
 ghost use Rattle.laid.specs.Laid.{laid};
 ghost use Rattle.shape.specs.Index.{rest};
 ghost use Rattle.shape.specs.Dims.{dimsOf, Fills};
-ghost use Rattle.dense.specs.Dense.{booleanOf, literalOf, markAt, before, oneAt, denseAt, denseValue};
+ghost use Rattle.dense.specs.Dense.{booleanOf, literalOf, markAt, commaBefore, oneAt, denseAt, denseValue};
 ghost use Rattle.dense.specs.Filled.{outcome, after, readingOf, filled, filledBy};
 use element::ElementType;
 use laid::put_slot;
@@ -83,7 +83,7 @@ fn mark(text: &[u8], at: usize, b: u8, place: usize) -> Reading
 
 // The comma before item j, or nothing before the first.
 fn separator(text: &[u8], at: usize, j: usize, place: usize) -> Reading
-    ensures { λ r. ⌜ r ≡ readingOf (before (eqb j 0) (now (text .entry)) at) place ⌝ }
+    ensures { λ r. ⌜ r ≡ readingOf (commaBefore (eqb j 0) (now (text .entry)) at) place ⌝ }
 {
     if j == 0 {
         return Reading {

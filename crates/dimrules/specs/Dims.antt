@@ -54,7 +54,7 @@ dimTest SizeIs s d = eqb (dim (s .m) d) (num (s .a) d)
 dimTest Kept s d = keptIs s d
 
 -- what the tests need: sizes 1, 2 and 6 of 01
-pub record Ready (s : Sides) : Type 0 where
+pub record SidesReady (s : Sides) : Type 0 where
   pub sized : Sized (s .n)
   pub few : s .a .count ≤ 6
 

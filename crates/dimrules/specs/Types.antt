@@ -34,12 +34,12 @@ unfoldable pub sameElement : TensorType → TensorType → Bool
 sameElement x y = eqb (elementCode (x .element)) (elementCode (y .element))
 
 -- two shapes beside each other, and a dimension
-abbrev pub shapesOf : TensorType → TensorType → ℕ → Sides
-shapesOf x y k = record { k = k; a = noNumbers; b = noNumbers; c = noNumbers; n = x .shape; m = y .shape }
+abbrev pub shapesBeside : TensorType → TensorType → ℕ → Sides
+shapesBeside x y k = record { k = k; a = noNumbers; b = noNumbers; c = noNumbers; n = x .shape; m = y .shape }
 
 -- shape(x) = shape(y)
 unfoldable pub sameShape : TensorType → TensorType → Bool
-sameShape x y = eqb (x .shape .rank) (y .shape .rank) && everywhere (x .shape .rank) (dimTest Same (shapesOf x y 0))
+sameShape x y = eqb (x .shape .rank) (y .shape .rank) && everywhere (x .shape .rank) (dimTest Same (shapesBeside x y 0))
 
 -- type(x) = type(y)
 unfoldable pub sameType : TensorType → TensorType → Bool
@@ -47,7 +47,7 @@ sameType x y = sameElement x y && sameShape x y
 
 -- shape(x) = shape(y) except for dimension k, which must exist (01: "A constraint that names a dimension .. that doesn't exist counts as broken")
 unfoldable pub sameButOne : TensorType → TensorType → ℕ → Bool
-sameButOne x y k = eqb (x .shape .rank) (y .shape .rank) && below k (x .shape .rank) && everywhere (x .shape .rank) (dimTest SameExcept (shapesOf x y k))
+sameButOne x y k = eqb (x .shape .rank) (y .shape .rank) && below k (x .shape .rank) && everywhere (x .shape .rank) (dimTest SameExcept (shapesBeside x y k))
 
 unfoldable pub typeTest : TypeTest → ℕ → TensorType → TensorType → Bool
 typeTest SameElement k x y = sameElement x y

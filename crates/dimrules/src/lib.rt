@@ -12,8 +12,8 @@ ghost use Rattle.shape.specs.Dims.{Sized};
 ghost use Rattle.dimrules.specs.Count.{firstFailing, everywhere};
 ghost use Rattle.dimrules.specs.Whole.{numberOf, upOf, downOf, nonNegative, positive as «positive-number», below as «below-number», inOrder, ceilingIs, paddedIs};
 ghost use Rattle.shape.specs.Place.{isIn};
-ghost use Rattle.dimrules.specs.Dims.{dim, num, listOf, keptBelow, keptIs, isFirst, dimTest, Ready};
-ghost use Rattle.dimrules.specs.Types.{elementCode, sameElement, sameShape, sameType, sameButOne, typeTest, operandTest, allTypes, sumOfDims, shapesOf, AllSized};
+ghost use Rattle.dimrules.specs.Dims.{dim, num, listOf, keptBelow, keptIs, isFirst, dimTest, SidesReady};
+ghost use Rattle.dimrules.specs.Types.{elementCode, sameElement, sameShape, sameType, sameButOne, typeTest, operandTest, allTypes, sumOfDims, shapesBeside, AllSized};
 
 pub struct TensorType {
     pub element: ElementType,
@@ -253,7 +253,7 @@ fn is_first(a: Numbers, d: usize) -> bool
 }
 
 fn dim_test(t: DimTest, s: Sides, d: usize) -> bool
-    requires { ⌜ Ready s ⌝ }
+    requires { ⌜ SidesReady s ⌝ }
     ensures { λ r. ⌜ r ≡ dimTest t s d ⌝ }
 {
     let k = s.k;
@@ -286,7 +286,7 @@ fn dim_test(t: DimTest, s: Sides, d: usize) -> bool
 
 // The first of count dimensions that fails the test; count where none does.
 pub fn first_dim(t: DimTest, count: usize, s: Sides) -> usize
-    requires { ⌜ Ready s ⌝ }
+    requires { ⌜ SidesReady s ⌝ }
     ensures { λ r. ⌜ r ≡ firstFailing count (dimTest t s) ⌝ }
 {
     for d in 0..count {
@@ -299,7 +299,7 @@ pub fn first_dim(t: DimTest, count: usize, s: Sides) -> usize
 
 // Each of count dimensions passes the test.
 pub fn all_dims(t: DimTest, count: usize, s: Sides) -> bool
-    requires { ⌜ Ready s ⌝ }
+    requires { ⌜ SidesReady s ⌝ }
     ensures { λ r. ⌜ r ≡ everywhere count (dimTest t s) ⌝ }
 {
     first_dim(t, count, s) == count
@@ -331,7 +331,7 @@ pub fn same_element(x: TensorType, y: TensorType) -> bool
 
 // Two shapes beside each other, and a dimension.
 fn shapes_of(x: TensorType, y: TensorType, k: usize) -> Sides
-    ensures { λ r. ⌜ r ≡ shapesOf x y k ⌝ }
+    ensures { λ r. ⌜ r ≡ shapesBeside x y k ⌝ }
 {
     let n = x.shape;
     let m = y.shape;

@@ -11,7 +11,7 @@ use lib.Dec.{eqb}
 use mir.Syntax.{Width, w64}
 use mir.Val.{SFits, toZ, ofZ, bits}
 use Rattle.lists.specs.Lists.{pick}
-use Rattle.element.specs.Types.{read, wrap, widthOf, signedOf, valueOf, wrapTo, slotFor, slotOf, Value}
+use Rattle.element.specs.Types.{read, wrap, widthOf, signedOf, valueOf, wrapTo, slotFor, slotOf, SlotHolds}
 use Rattle.element.specs.declared.ElementType.{ElementType}
 use Rattle.element.specs.declared.ElementType.the-variants.{I1, I8, I16, I32, I64, U8, U16, U32, U64}
 use Rattle.element.proofs.Signed.{value-signed, value-unsigned}
@@ -36,7 +36,7 @@ sixty-four U64 g a b c = refl
 
 -- of a signed type of w's bits: a value's slot s, read as x, fits w; and the slot of what was divided at w
 module _ (w : Width) (t : ElementType) (g : signedOf t ≡ true) (e : widthOf t ≡ bits w) where
-  pub slot-fits : (s : ℕ) → Value t s → {x : ℤ} → mag x < 2 ^ 63 → x ≡ read true 64 s → SFits w (toZ w64 (ofZ w64 x))
+  pub slot-fits : (s : ℕ) → SlotHolds t s → {x : ℤ} → mag x < 2 ^ 63 → x ≡ read true 64 s → SFits w (toZ w64 (ofZ w64 x))
   slot-fits s v h q = rw (held w64 h q) (record { sfits = rw (value-signed t s g, e, ← half w) at (signed-range t s v g) })
 
   pub divided-slot : (op : Division) (a b : ℕ) {x y r : ℤ} → mag x < 2 ^ 63 → x ≡ read true 64 a → mag y < 2 ^ 63 → y ≡ read true 64 b → mag r < 2 ^ 63
@@ -46,7 +46,7 @@ module _ (w : Width) (t : ElementType) (g : signedOf t ≡ true) (e : widthOf t 
       ap slotOf (held w64 hr er ∙ ap₂ (λ (u v : ℤ). wrap true (bits w) (resultOf op u v)) (held w64 hx ex) (held w64 hy ey))
       ∙ rw (value-signed t a g, value-signed t b g, e, g)
 
-module _ (t : ElementType) (g : signedOf t ≡ false) (a b : ℕ) (v : Value t a) where
+module _ (t : ElementType) (g : signedOf t ≡ false) (a b : ℕ) (v : SlotHolds t a) where
   pub unsigned-quotient : a / b ≡ wrapTo t (quotZ (valueOf t a) (valueOf t b))
   unsigned-quotient = rw (value-unsigned t a g, value-unsigned t b g) (sym (unsigned-fixed t g (lt-of-le-of-lt (div-le-self a b) (unsigned-range t a v g))))
 
@@ -54,10 +54,10 @@ module _ (t : ElementType) (g : signedOf t ≡ false) (a b : ℕ) (v : Value t a
   unsigned-remainder = rw (value-unsigned t a g, value-unsigned t b g) (sym (unsigned-fixed t g (lt-of-le-of-lt (mod-le a b) (unsigned-range t a v g))))
 
 -- what a division gives is a value of its type
-pub division-closed : (op : Division) (t : ElementType) (a b : ℕ) → Value t (divisionOf op t a b .1)
+pub division-closed : (op : Division) (t : ElementType) (a b : ℕ) → SlotHolds t (divisionOf op t a b .1)
 unfolding divisionOf
 division-closed op t a b = go (eqb b 0)
   where
-    go : (z : Bool) → Value t (pick {A = ℕ × ℕ} z (12, 0) (0, wrapTo t (resultOf op (valueOf t a) (valueOf t b))) .1)
+    go : (z : Bool) → SlotHolds t (pick {A = ℕ × ℕ} z (12, 0) (0, wrapTo t (resultOf op (valueOf t a) (valueOf t b))) .1)
     go true = zero-value t
     go false = wrapped-value t (resultOf op (valueOf t a) (valueOf t b))

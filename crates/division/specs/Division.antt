@@ -23,9 +23,9 @@ resultOf Divide = quotZ
 resultOf Remainder = remZ
 
 -- an answer's refusal ("12 | zero divisor") and its value ("Unnamed ones are 0")
-abbrev pub numbersOf : Divided → ℕ × ℕ
-numbersOf (Value v) = (0, v)
-numbersOf ByZero = (12, 0)
+abbrev pub dividedNumbers : Divided → ℕ × ℕ
+dividedNumbers (Value v) = (0, v)
+dividedNumbers ByZero = (12, 0)
 
 -- refusal and value on slots of a type
 unfoldable pub divisionOf : Division → ElementType → ℕ → ℕ → ℕ × ℕ

@@ -5,8 +5,8 @@ ghost use lib.IntN.{pos};
 ghost use lib.Signed.{remZ};
 ghost use mir.Syntax.{w8, w16, w32, w64};
 ghost use mir.Val.{SFits};
-ghost use Rattle.element.specs.Types.{Value, signedOf, wrap, valueOf, wrapTo};
-ghost use Rattle.division.specs.Division.{quotientOf, resultOf, numbersOf, divisionOf};
+ghost use Rattle.element.specs.Types.{SlotHolds, signedOf, wrap, valueOf, wrapTo};
+ghost use Rattle.division.specs.Division.{quotientOf, resultOf, dividedNumbers, divisionOf};
 use element::ElementType;
 
 // divide and remainder of 000.
@@ -153,7 +153,7 @@ fn divide_64(op: Division, x: i64, y: i64) -> i64
 
 // Either, of two values of a signed type.
 fn divide_signed(op: Division, t: ElementType, a: u64, b: u64) -> u64
-    requires { ⌜ (signedOf t ≡ true) × (Value t a × (Value t b × (b ≡ 0 → ⊥))) ⌝ }
+    requires { ⌜ (signedOf t ≡ true) × (SlotHolds t a × (SlotHolds t b × (b ≡ 0 → ⊥))) ⌝ }
     ensures { λ r. ⌜ r ≡ wrapTo t (resultOf op (valueOf t a) (valueOf t b)) ⌝ }
 {
     let x = element::signed_of(a);
@@ -169,8 +169,8 @@ fn divide_signed(op: Division, t: ElementType, a: u64, b: u64) -> u64
 
 // divide or remainder of two values of the type.
 pub fn apply_division(op: Division, t: ElementType, a: u64, b: u64) -> Divided
-    requires { ⌜ Value t a × Value t b ⌝ }
-    ensures { λ r. ⌜ numbersOf r ≡ divisionOf op t a b ⌝ }
+    requires { ⌜ SlotHolds t a × SlotHolds t b ⌝ }
+    ensures { λ r. ⌜ dividedNumbers r ≡ divisionOf op t a b ⌝ }
 {
     if b == 0 {
         return Divided::ByZero;

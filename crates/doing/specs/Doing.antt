@@ -11,7 +11,7 @@ use Rattle.run.specs.Run.{Out, gives, onOut}
 use Rattle.run.specs.Ways.{byFold}
 use Rattle.shape.specs.Index.{at, size}
 use Rattle.shape.specs.Dims.{dimsOf}
-use Rattle.elementwise.specs.Elementwise.{Tensor, Holds, numbersOf, outNumbers}
+use Rattle.elementwise.specs.Elementwise.{Tensor, Holds, stepNumbers, outNumbers}
 use Rattle.elementwise.specs.declared.Step.{Step}
 use Rattle.ops.specs.declared.Kind.{Kind}
 use Rattle.ops.specs.declared.Kind.the-variants.{Constant, Iota, Elementwise, Pairwise, Quotient, Compare, Convert, Select, Clamp, Moved, Pad, Concatenate, DynamicSlice, Reduce}
@@ -36,15 +36,15 @@ abbrev pub argsIn : Operation → List ℕ → List ℕ → List Tensor
 argsIn o places slots = tab (o .arity) (argIn o places slots)
 
 -- the elements of the dense value at a byte, as the op's value attribute has its type
-abbrev pub valuesAt : Operation → List ℕ → ℕ → Tensor
-valuesAt o text literal = denseValue (o .value .element) (dimsOf (o .value .shape)) text literal .elements
+abbrev pub argumentsAt : Operation → List ℕ → ℕ → Tensor
+argumentsAt o text literal = denseValue (o .value .element) (dimsOf (o .value .shape)) text literal .elements
 
 -- what the op gives: its tensor, or the first element whose divisor is zero
 unfoldable pub opGives : Kind → Operation → Tensor → List Tensor → Out Tensor ℕ
 opGives kind o values args = byFold hlo (wayOf (nodeFor kind o values []) kind args)
 
 -- every operand stands within the slots and holds values of its type
-pub record Placed (o : Operation) (places slots : List ℕ) : Type 0 where
+pub record OperandsPlaced (o : Operation) (places slots : List ℕ) : Type 0 where
   pub inside : (j : ℕ) → j < o .arity → at places j + sizeOf o j ≤ length slots
   pub holds : (j : ℕ) → j < o .arity → Holds (typeAt (o .types) j .element) (sizeOf o j) (argIn o places slots j)
 
@@ -54,27 +54,27 @@ Readable kind o text literal = kind ≡ Constant → denseValue (o .value .eleme
 
 -- how the op with this number answers, and what it leaves where old stood: its tensor; "zero from the refusing op's first slot"
 pub record Done (number : ℕ) (m : Out Tensor ℕ) (r : Step) (old new : List ℕ) : Type 0 where
-  pub answers : numbersOf r ≡ outNumbers number m
+  pub answers : stepNumbers r ≡ outNumbers number m
   pub leaves : new ≡ onOut m (λ v. v) (λ k. replicate (length old) 0)
 
 -- ---- its parts
 
 -- a constant is read from the text, a quotient may meet a zero divisor, concatenate takes any number of operands; a task does the others
-abbrev pub classOf : Kind → Class
-classOf Constant = Read
-classOf (Quotient op) = Divided op
-classOf Concatenate = Joined
-classOf Iota = ByTask
-classOf (Elementwise op) = ByTask
-classOf (Pairwise op) = ByTask
-classOf (Compare d) = ByTask
-classOf Convert = ByTask
-classOf Select = ByTask
-classOf Clamp = ByTask
-classOf (Moved m) = ByTask
-classOf Pad = ByTask
-classOf DynamicSlice = ByTask
-classOf (Reduce body) = ByTask
+abbrev pub classOfKind : Kind → Class
+classOfKind Constant = Read
+classOfKind (Quotient op) = Divided op
+classOfKind Concatenate = Joined
+classOfKind Iota = ByTask
+classOfKind (Elementwise op) = ByTask
+classOfKind (Pairwise op) = ByTask
+classOfKind (Compare d) = ByTask
+classOfKind Convert = ByTask
+classOfKind Select = ByTask
+classOfKind Clamp = ByTask
+classOfKind (Moved m) = ByTask
+classOfKind Pad = ByTask
+classOfKind DynamicSlice = ByTask
+classOfKind (Reduce body) = ByTask
 
 -- operand j; past the last one there is nothing
 abbrev pub operandIn : Operation → List ℕ → List ℕ → ℕ → Tensor

@@ -8,7 +8,7 @@ ghost use Rattle.shape.specs.Dims.{Fills};
 ghost use Rattle.ops.specs.declared.Kind.the-variants.{Constant, Quotient, Concatenate};
 ghost use Rattle.dimrules.specs.Types.{typeAt};
 ghost use Rattle.facts.specs.Facts.{AcceptedAs, DoneByTask, Shaped, taskOf};
-ghost use Rattle.doing.specs.Doing.{argsIn, valuesAt, operandIn, startIn, classOf, opGives, Placed, Readable, Done, Gives, Answers};
+ghost use Rattle.doing.specs.Doing.{argsIn, argumentsAt, operandIn, startIn, classOfKind, opGives, OperandsPlaced, Readable, Done, Gives, Answers};
 use apply::Task;
 use dimrules::TensorType;
 use division::Division;
@@ -27,7 +27,7 @@ pub enum Class {
 }
 
 fn class_of(kind: Kind) -> Class
-    ensures { λ r. ⌜ r ≡ classOf kind ⌝ }
+    ensures { λ r. ⌜ r ≡ classOfKind kind ⌝ }
 {
     match kind {
         Kind::Constant => Class::Read,
@@ -119,7 +119,7 @@ fn shapes_of(types: [TensorType; Limits::OPERANDS]) -> [Shape; Limits::OPERANDS]
 
 // Operand j; no slot where the op has no operand j.
 fn operand(o: Operation, places: [usize; Limits::OPERANDS], slots: &[u64], j: usize) -> &[u64]
-    requires { ⌜ Shaped o × Placed o places (now slots) × (j < 8) ⌝ }
+    requires { ⌜ Shaped o × OperandsPlaced o places (now slots) × (j < 8) ⌝ }
     ensures { λ r. ⌜ now r ≡ operandIn o places (now (slots .entry)) j ⌝ }
 {
     let types = o.types;
@@ -148,7 +148,7 @@ pub fn zero_into(out: &mut [u64])
 // The elements of its dense value.
 fn constant_op(text: &[u8], o: Operation, literal: usize, out: &mut [u64])
     requires { ⌜ AcceptedAs Constant o × Readable Constant o (now text) literal × Fills (now out) (o .result .shape) ⌝ }
-    ensures { λ _. ⌜ now (out .exit) ≡ valuesAt o (now (text .entry)) literal ⌝ }
+    ensures { λ _. ⌜ now (out .exit) ≡ argumentsAt o (now (text .entry)) literal ⌝ }
 {
     let value = o.value;
     let element = value.element;
@@ -165,7 +165,7 @@ fn quotient_op(
     slots: &[u64],
     out: &mut [u64],
 ) -> Step
-    requires { ⌜ AcceptedAs (Quotient op) o × Placed o places (now slots) × Fills (now out) (o .result .shape) ⌝ }
+    requires { ⌜ AcceptedAs (Quotient op) o × OperandsPlaced o places (now slots) × Fills (now out) (o .result .shape) ⌝ }
     ensures { λ r. ⌜ Answers number (Quotient op) o (argsIn o places (now (slots .entry))) r (now (out .entry)) (now (out .exit)) ⌝ }
 {
     let result = o.result;
@@ -184,7 +184,7 @@ fn quotient_op(
 
 // The operands one after the other along a dimension.
 fn concatenate_op(o: Operation, places: [usize; Limits::OPERANDS], slots: &[u64], out: &mut [u64])
-    requires { ⌜ AcceptedAs Concatenate o × Placed o places (now slots) × Fills (now out) (o .result .shape) ⌝ }
+    requires { ⌜ AcceptedAs Concatenate o × OperandsPlaced o places (now slots) × Fills (now out) (o .result .shape) ⌝ }
     ensures { λ _. ⌜ Gives Concatenate o (argsIn o places (now (slots .entry))) (now (out .exit)) ⌝ }
 {
     let a = o.a;
@@ -203,7 +203,7 @@ fn task_op(
     slots: &[u64],
     out: &mut [u64],
 )
-    requires { ⌜ AcceptedAs kind o × DoneByTask kind × Placed o places (now slots) × Fills (now out) (o .result .shape) ⌝ }
+    requires { ⌜ AcceptedAs kind o × DoneByTask kind × OperandsPlaced o places (now slots) × Fills (now out) (o .result .shape) ⌝ }
     ensures { λ _. ⌜ Gives kind o (argsIn o places (now (slots .entry))) (now (out .exit)) ⌝ }
 {
     let x = operand(o, places, slots, 0);
@@ -223,8 +223,8 @@ pub fn do_op(
     slots: &[u64],
     out: &mut [u64],
 ) -> Step
-    requires { ⌜ AcceptedAs kind o × Placed o places (now slots) × Readable kind o (now text) literal × Fills (now out) (o .result .shape) ⌝ }
-    ensures { λ r. ⌜ Done number (opGives kind o (valuesAt o (now (text .entry)) literal) (argsIn o places (now (slots .entry)))) r (now (out .entry)) (now (out .exit)) ⌝ }
+    requires { ⌜ AcceptedAs kind o × OperandsPlaced o places (now slots) × Readable kind o (now text) literal × Fills (now out) (o .result .shape) ⌝ }
+    ensures { λ r. ⌜ Done number (opGives kind o (argumentsAt o (now (text .entry)) literal) (argsIn o places (now (slots .entry)))) r (now (out .entry)) (now (out .exit)) ⌝ }
 {
     let class = class_of(kind);
     match class {

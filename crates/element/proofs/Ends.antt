@@ -8,17 +8,17 @@ use lib.IntN.{ℤ, pos, negsuc}
 use lib.Signed.{leZ, mag, _≤ℤ_}
 use lib.Dec.{T, le→leb, leb·zero, lit≤}
 use Rattle.lists.specs.Lists.{pick}
-use Rattle.element.specs.Types.{widthOf, signedOf, lowestOf, highestOf, allOf, valueOf, isValue, Value}
+use Rattle.element.specs.Types.{widthOf, signedOf, lowestOf, highestOf, allOf, valueOf, isValue, SlotHolds}
 use Rattle.element.specs.declared.ElementType.{ElementType}
 use Rattle.element.specs.declared.ElementType.the-variants.{I1, I8, I16, I32, I64, U8, U16, U32, U64}
 use Rattle.element.proofs.Signed.{value-unsigned}
 use Rattle.element.proofs.Range.{signed-range, unsigned-range}
 
 pub record Ends (t : ElementType) : Type 0 where
-  pub lowest : Value t (lowestOf t)
-  pub highest : Value t (highestOf t)
-  pub all : Value t (allOf t)
-  pub one : Value t 1
+  pub lowest : SlotHolds t (lowestOf t)
+  pub highest : SlotHolds t (highestOf t)
+  pub all : SlotHolds t (allOf t)
+  pub one : SlotHolds t 1
   pub width : widthOf t ≤ highestOf t
   pub lowest-is : valueOf t (lowestOf t) ≡ pick (signedOf t) (negsuc (2 ^ (widthOf t - 1) - 1)) (pos 0)
   pub highest-is : valueOf t (highestOf t) ≡ pos (highestOf t)
@@ -35,7 +35,7 @@ ends U16 = record { lowest = refl; highest = refl; all = refl; one = refl; width
 ends U32 = record { lowest = refl; highest = refl; all = refl; one = refl; width = lit≤ tt; lowest-is = refl; highest-is = refl }
 ends U64 = record { lowest = refl; highest = refl; all = refl; one = refl; width = lit≤ tt; lowest-is = refl; highest-is = refl }
 
-pub zero-value : (t : ElementType) → Value t 0
+pub zero-value : (t : ElementType) → SlotHolds t 0
 unfolding isValue
 zero-value t = rw (leb·zero (highestOf t))
 
@@ -44,7 +44,7 @@ signed-between h (pos k) l = (tt, le→leb k (h - 1) (omega arith))
 signed-between h (negsuc k) l = (le→leb k (h - 1) (omega arith), tt)
 
 -- every value lies from the lowest to the highest
-pub between : (t : ElementType) (a : ℕ) → Value t a → (valueOf t (lowestOf t) ≤ℤ valueOf t a) × (valueOf t a ≤ℤ valueOf t (highestOf t))
+pub between : (t : ElementType) (a : ℕ) → SlotHolds t a → (valueOf t (lowestOf t) ≤ℤ valueOf t a) × (valueOf t a ≤ℤ valueOf t (highestOf t))
 between t a v = go (signedOf t) refl
   where
     go : (b : Bool) → signedOf t ≡ b → (valueOf t (lowestOf t) ≤ℤ valueOf t a) × (valueOf t a ≤ℤ valueOf t (highestOf t))

@@ -9,7 +9,7 @@ use lib.Pow.{pow-pos, pow-mono}
 use lib.IntN.{ℤ, pos, negsuc, negℤ, natAbs}
 use lib.Signed.{ltZ}
 use borrow.Author.Tests.{le-leb, lt-leb}
-use Rattle.element.specs.Types.{widthOf, signedOf, highestOf, lowestOf, slotOf, slotFor, valueOf, Value}
+use Rattle.element.specs.Types.{widthOf, signedOf, highestOf, lowestOf, slotOf, slotFor, valueOf, SlotHolds}
 use Rattle.element.specs.declared.ElementType.{ElementType}
 use Rattle.element.proofs.Slots.{sized}
 use Rattle.element.proofs.Signed.{value-plain, value-negative, value-small, value-signed, value-unsigned, read-high}
@@ -63,7 +63,7 @@ lowest-highest t g = rw g (omega (arith, pow-pos (widthOf t - 1), pow-mono {i = 
 
 -- a number in the type's range: its slot is a value of the type and holds it
 pub record Held (t : ElementType) (z : ℤ) : Type 0 where
-  pub value : Value t (slotFor t z)
+  pub value : SlotHolds t (slotFor t z)
   pub holds : valueOf t (slotFor t z) ≡ z
 
 module _ (t : ElementType) (n : ℕ) (h : n ≤ highestOf t) where

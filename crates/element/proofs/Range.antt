@@ -12,7 +12,7 @@ use lib.Signed.{mag}
 use lib.Dec.{leb, ltb}
 use borrow.Author.Tests.{ltb-true, leb-true, leb-false, lt-ltb, le-leb, lt-leb}
 use Rattle.lists.specs.Lists.{pick}
-use Rattle.element.specs.Types.{read, wrap, widthOf, signedOf, valueOf, wrapTo, slotFor, slotOf, isValue, Value, lowestOf, highestOf}
+use Rattle.element.specs.Types.{read, wrap, widthOf, signedOf, valueOf, wrapTo, slotFor, slotOf, isValue, SlotHolds, lowestOf, highestOf}
 use Rattle.element.specs.declared.ElementType.{ElementType}
 use Rattle.element.proofs.Wrap.{extend, wrap-signed, wrap-unsigned, power}
 use Rattle.element.proofs.Slots.{sized, slot-value, wrapTo-is}
@@ -25,17 +25,17 @@ or-true true = refl
 or-true false = refl
 
 module _ (t : ElementType) {s : ℕ} where
-  pub low-value : s ≤ highestOf t → Value t s
+  pub low-value : s ≤ highestOf t → SlotHolds t s
   unfolding isValue
   low-value h = rw (le-leb s (highestOf t) h)
 
-  pub high-value : signedOf t ≡ true → lowestOf t ≤ s → s < 2 ^ 64 → Value t s
+  pub high-value : signedOf t ≡ true → lowestOf t ≤ s → s < 2 ^ 64 → SlotHolds t s
   unfolding isValue
   high-value g l h =
       let m : 2 ^ 64 - 2 ^ (widthOf t - 1) ≤ s = rw g at l in
       rw (g, le-leb (2 ^ 64 - 2 ^ (widthOf t - 1)) s m, lt-ltb s (2 ^ 64) h) (or-true (leb s (2 ^ (widthOf t - 1) - 1)))
 
-  pub value-cases : Value t s → (s ≤ highestOf t) ⊎ ((signedOf t ≡ true) × (lowestOf t ≤ s) × (s < 2 ^ 64))
+  pub value-cases : SlotHolds t s → (s ≤ highestOf t) ⊎ ((signedOf t ≡ true) × (lowestOf t ≤ s) × (s < 2 ^ 64))
   unfolding isValue
   value-cases v =
       go (leb s (highestOf t)) (signedOf t) (leb (lowestOf t) s) (ltb s (2 ^ 64)) (leb-true s (highestOf t)) (λ e. e) (leb-true (lowestOf t) s) (ltb-true s (2 ^ 64)) v
@@ -49,7 +49,7 @@ module _ (t : ElementType) {s : ℕ} where
       go false false p q a b c d e = let z : _≡_ {A = ℕ} 0 1 = cc in absurd (omega arith)
 
 -- every value's slot has 64 bits
-pub value-lt : (t : ElementType) (s : ℕ) → Value t s → s < 2 ^ 64
+pub value-lt : (t : ElementType) (s : ℕ) → SlotHolds t s → s < 2 ^ 64
 value-lt t s v = go (signedOf t) refl (value-cases t v)
   where
     go : (b : Bool) → signedOf t ≡ b → (s ≤ highestOf t) ⊎ ((signedOf t ≡ true) × (lowestOf t ≤ s) × (s < 2 ^ 64)) → s < 2 ^ 64
@@ -57,7 +57,7 @@ value-lt t s v = go (signedOf t) refl (value-cases t v)
     go true g (inl h) = omega (arith, rw g at h, pow-pos (widthOf t - 1), pow-mono {i = widthOf t - 1} {j = 64} (omega (arith, sized t .most)))
     go false g (inl h) = omega (arith, rw g at h, pow-pos (widthOf t), pow-mono (sized t .most))
 
-module _ (t : ElementType) (s : ℕ) (v : Value t s) where
+module _ (t : ElementType) (s : ℕ) (v : SlotHolds t s) where
   pub unsigned-range : signedOf t ≡ false → s < 2 ^ widthOf t
   unsigned-range g = go (value-cases t v)
     where
@@ -91,7 +91,7 @@ module _ (t : ElementType) (s : ℕ) (v : Value t s) where
           ∙ ap (λ (z : ℤ). slotOf (wrap false (widthOf t) z)) (value-unsigned t s g) ∙ ap slotOf (wrap-unsigned (widthOf t) s (unsigned-range g)) ∙ mod-eq-of-lt (value-lt t s v)
 
 -- an integer taken into the range is a value of the type
-pub wrapped-value : (t : ElementType) (z : ℤ) → Value t (wrapTo t z)
+pub wrapped-value : (t : ElementType) (z : ℤ) → SlotHolds t (wrapTo t z)
 wrapped-value t z = rw (wrapTo-is t z) (go (signedOf t) refl)
   where
     n : ℕ
@@ -106,17 +106,17 @@ wrapped-value t z = rw (wrapTo-is t z) (go (signedOf t) refl)
     p : 2 ^ n ≤ 2 ^ 64
     p = pow-mono (sized t .most)
 
-    signed : signedOf t ≡ true → (b : Bool) → (b ≡ true → 2 ^ (n - 1) ≤ r) → (b ≡ false → r < 2 ^ (n - 1)) → Value t (pick b (r + (2 ^ 64 - 2 ^ n)) r)
+    signed : signedOf t ≡ true → (b : Bool) → (b ≡ true → 2 ^ (n - 1) ≤ r) → (b ≡ false → r < 2 ^ (n - 1)) → SlotHolds t (pick b (r + (2 ^ 64 - 2 ^ n)) r)
     signed g true l h = high-value t g (rw g (omega (arith, l refl, p, power n (sized t .least)))) (omega (arith, small, p))
     signed g false l h = low-value t (rw g (omega (arith, h refl)))
 
-    go : (b : Bool) → signedOf t ≡ b → Value t (extend 64 (signedOf t) n (slotOf z))
+    go : (b : Bool) → signedOf t ≡ b → SlotHolds t (extend 64 (signedOf t) n (slotOf z))
     go true g = rw g (signed g (leb (2 ^ (n - 1)) r) (leb-true (2 ^ (n - 1)) r) (leb-false (2 ^ (n - 1)) r))
     go false g = rw g (low-value t (rw g (omega (arith, small))))
 
 -- an unsigned or boolean number below 2^n is its own slot
 module _ (t : ElementType) (g : signedOf t ≡ false) {s : ℕ} (h : s < 2 ^ widthOf t) where
-  pub unsigned-value : Value t s
+  pub unsigned-value : SlotHolds t s
   unsigned-value = low-value t (rw g (omega arith))
 
   pub unsigned-fixed : wrapTo t (pos s) ≡ s

@@ -93,5 +93,5 @@ allOf t = pick (signedOf t) (2 ^ 64 - 1) (maskOf t)
 unfoldable pub isValue : ElementType → ℕ → Bool
 isValue t s = leb s (highestOf t) || (signedOf t && leb (lowestOf t) s && ltb s (2 ^ 64))
 
-abbrev pub Value : ElementType → ℕ → Type 0
-Value t s = isValue t s ≡ true
+abbrev pub SlotHolds : ElementType → ℕ → Type 0
+SlotHolds t s = isValue t s ≡ true

@@ -11,15 +11,15 @@ use borrow.Author.Tests.{lt-ltb, le-ltb, eqb-true}
 use Rattle.lists.specs.Lists.{pick, firstWhere}
 use Rattle.lists.proofs.SearchLaw.{Passed, passed-here, passed-end}
 use Rattle.lists.proofs.AllLaw.{all-get}
-use Rattle.element.specs.Types.{Value}
+use Rattle.element.specs.Types.{SlotHolds}
 use Rattle.element.specs.declared.ElementType.{ElementType}
 use Rattle.division.specs.declared.Division.{Division}
 use Rattle.elementwise.specs.Elementwise.{Tensor, Holds, isZero, operandAt, zeroDivisor, divisionAt, Divides}
 use Rattle.elementwise.specs.declared.Step.the-variants.{Filled, Zero}
 use Rattle.elementwise.proofs.FillLaw.{Done, done-all}
 
-pub value-at : {t : ElementType} {n : ℕ} {x : Tensor} → Holds t n x → (k : ℕ) → k < n → Value t (getD x k 0)
-value-at {t} {n} {x} h k q = all-get (Value t) x 0 (h .ranged) k (omega (arith, h .sized))
+pub value-at : {t : ElementType} {n : ℕ} {x : Tensor} → Holds t n x → (k : ℕ) → k < n → SlotHolds t (getD x k 0)
+value-at {t} {n} {x} h k q = all-get (SlotHolds t) x 0 (h .ranged) k (omega (arith, h .sized))
 
 -- whether the divisor of element k is zero, by the test of operand j's element v
 module _ (x y : Tensor) (k j v : ℕ) (read : v ≡ operandAt x y k j) where

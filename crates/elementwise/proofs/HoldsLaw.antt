@@ -9,7 +9,7 @@ use Rattle.lists.specs.Lists.{pick, tab, firstWhere}
 use Rattle.lists.proofs.TabLaw.{length-tab}
 use Rattle.lists.proofs.AllLaw.{all-tab}
 use Rattle.run.specs.Run.{gives, stops}
-use Rattle.element.specs.Types.{Value}
+use Rattle.element.specs.Types.{SlotHolds}
 use Rattle.element.specs.declared.ElementType.{ElementType}
 use Rattle.element.specs.declared.ElementType.the-variants.{I1}
 use Rattle.division.specs.declared.Division.{Division}
@@ -21,8 +21,8 @@ use Rattle.scalar.proofs.Closed.{unary-closed, binary-closed, compare-closed, c
 use Rattle.elementwise.specs.Elementwise.{Tensor, Holds, spread, spreadSize, unaryAt, binaryAt, compareAt, convertAt, selectAt, clampAt, isZero, divisionAt, divided}
 use Rattle.elementwise.proofs.DivideLaw.{value-at}
 
-pub tab-holds : (t : ElementType) (n : ℕ) (f : ℕ → ℕ) → ((k : ℕ) → k < n → Value t (f k)) → Holds t n (tab n f)
-tab-holds t n f h = record { sized = length-tab n f; ranged = all-tab (Value t) n f h }
+pub tab-holds : (t : ElementType) (n : ℕ) (f : ℕ → ℕ) → ((k : ℕ) → k < n → SlotHolds t (f k)) → Holds t n (tab n f)
+tab-holds t n f h = record { sized = length-tab n f; ranged = all-tab (SlotHolds t) n f h }
 
 module _ (t : ElementType) (n : ℕ) where
   pub unary-holds : (op : Unary) {x : Tensor} → Holds t n x → Holds t n (tab n (unaryAt op t x))
@@ -40,7 +40,7 @@ module _ (t : ElementType) (n : ℕ) where
   pub select-holds : (single : Bool) (pred : Tensor) {x y : Tensor} → Holds t n x → Holds t n y → Holds t n (tab n (selectAt single pred x y))
   select-holds single pred h g = tab-holds t n _ (λ k q. select-closed t _ _ _ (value-at h k q) (value-at g k q))
 
-  spread-value : (single : Bool) {x : Tensor} → Holds t (spreadSize single n) x → (k : ℕ) → k < n → Value t (spread single x k)
+  spread-value : (single : Bool) {x : Tensor} → Holds t (spreadSize single n) x → (k : ℕ) → k < n → SlotHolds t (spread single x k)
   spread-value true h k q = value-at h 0 (omega arith)
   spread-value false h k q = value-at h k q
 

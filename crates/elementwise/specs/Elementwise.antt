@@ -8,7 +8,7 @@ use lib.Dec.{eqb, ltb}
 use lib.ListN.{length, getD, drop}
 use Rattle.lists.specs.Lists.{pick, tab, All, firstWhere}
 use Rattle.run.specs.Run.{Out, gives, stops, onOut}
-use Rattle.element.specs.Types.{Value}
+use Rattle.element.specs.Types.{SlotHolds}
 use Rattle.element.specs.declared.ElementType.{ElementType}
 use Rattle.division.specs.Division.{divisionOf}
 use Rattle.division.specs.declared.Division.{Division}
@@ -25,10 +25,10 @@ Tensor = List ℕ
 -- a tensor of n elements, each a value of the type
 pub record Holds (t : ElementType) (n : ℕ) (x : Tensor) : Type 0 where
   pub sized : length x ≡ n
-  pub ranged : All (Value t) x
+  pub ranged : All (SlotHolds t) x
 
 -- two operands of n elements
-pub record Sized (n : ℕ) (x y : Tensor) : Type 0 where
+pub record TwoSized (n : ℕ) (x y : Tensor) : Type 0 where
   pub first : length x ≡ n
   pub second : length y ≡ n
 
@@ -92,9 +92,9 @@ abbrev pub divided : Division → ElementType → ℕ → Tensor → Tensor → 
 divided op t n x y = pick (ltb (firstWhere isZero y) n) (stops (firstWhere isZero y)) (gives (tab n (divisionAt op t x y)))
 
 -- "An answer has three numbers: refusal, A, B"; "12 | zero divisor | op | element"
-abbrev pub numbersOf : Step → ℕ × ℕ × ℕ
-numbersOf Filled = (0, 0, 0)
-numbersOf (Zero op element) = (12, op, element)
+abbrev pub stepNumbers : Step → ℕ × ℕ × ℕ
+stepNumbers Filled = (0, 0, 0)
+stepNumbers (Zero op element) = (12, op, element)
 
 -- the numbers of the op with this number, by what it gives
 abbrev pub outNumbers : ℕ → Out Tensor ℕ → ℕ × ℕ × ℕ
@@ -107,5 +107,5 @@ leftBy op t x y old = onOut (divided op t (length old) x y) (λ v. v) (λ k. tab
 
 -- what a division answers, and what it leaves where old stood
 pub record Divides (number : ℕ) (op : Division) (t : ElementType) (x y : Tensor) (r : Step) (old new : List ℕ) : Type 0 where
-  pub answers : numbersOf r ≡ outNumbers number (divided op t (length old) x y)
+  pub answers : stepNumbers r ≡ outNumbers number (divided op t (length old) x y)
   pub leaves : new ≡ leftBy op t x y old

@@ -4,9 +4,9 @@ ghost use lib.Dec.{eqb};
 ghost use Prim.Native.Nat.{_<_};
 ghost use lib.ListN.{length};
 ghost use Rattle.lists.specs.Lists.{tab, pick};
-ghost use Rattle.element.specs.Types.{Value};
+ghost use Rattle.element.specs.Types.{SlotHolds};
 ghost use Rattle.division.specs.Division.{divisionOf};
-ghost use Rattle.elementwise.specs.Elementwise.{Holds, Sized, SelectSized, ClampSized, spread, unaryAt, binaryAt, compareAt, convertAt, selectAt, clampAt, operandAt, zeroDivisor, divisionAt, Divides};
+ghost use Rattle.elementwise.specs.Elementwise.{Holds, TwoSized, SelectSized, ClampSized, spread, unaryAt, binaryAt, compareAt, convertAt, selectAt, clampAt, operandAt, zeroDivisor, divisionAt, Divides};
 use division::Divided;
 use division::Division;
 use element::ElementType;
@@ -32,7 +32,7 @@ pub fn unary_into(op: Unary, t: ElementType, x: &[u64], out: &mut [u64])
 }
 
 pub fn binary_into(op: Binary, t: ElementType, x: &[u64], y: &[u64], out: &mut [u64])
-    requires { ⌜ Sized (length (now out)) (now x) (now y) ⌝ }
+    requires { ⌜ TwoSized (length (now out)) (now x) (now y) ⌝ }
     ensures { λ _. ⌜ now (out .exit) ≡ tab (length (now (out .entry))) (binaryAt op t (now (x .entry)) (now (y .entry))) ⌝ }
 {
     let mut k = 0;
@@ -44,7 +44,7 @@ pub fn binary_into(op: Binary, t: ElementType, x: &[u64], y: &[u64], out: &mut [
 
 // Operands of type t; the results are booleans.
 pub fn compare_into(d: Direction, t: ElementType, x: &[u64], y: &[u64], out: &mut [u64])
-    requires { ⌜ Sized (length (now out)) (now x) (now y) ⌝ }
+    requires { ⌜ TwoSized (length (now out)) (now x) (now y) ⌝ }
     ensures { λ _. ⌜ now (out .exit) ≡ tab (length (now (out .entry))) (compareAt d t (now (x .entry)) (now (y .entry))) ⌝ }
 {
     let mut k = 0;
@@ -131,7 +131,7 @@ fn is_zero_divisor(j: usize, v: u64) -> bool
 
 // The slot of a quotient or a remainder.
 fn divide_slots(op: Division, t: ElementType, a: u64, b: u64) -> u64
-    requires { ⌜ Value t a × Value t b ⌝ }
+    requires { ⌜ SlotHolds t a × SlotHolds t b ⌝ }
     ensures { λ r. ⌜ r ≡ divisionOf op t a b .1 ⌝ }
 {
     let d = division::apply_division(op, t, a, b);

@@ -5,9 +5,9 @@ use mathlib.Core.List.{List}
 use Prim.Native.Nat.{ℕ}
 use Rattle.run.specs.Run.{results, stopped, gives, stops}
 use Rattle.division.specs.declared.Divided.the-variants.{Value, ByZero}
-use Rattle.division.specs.Division.{numbersOf as dividedNumbers}
+use Rattle.division.specs.Division.{dividedNumbers}
 use Rattle.elementwise.specs.declared.Step.the-variants.{Filled, Zero}
-use Rattle.elementwise.specs.Elementwise.{Tensor, numbersOf, outNumbers}
+use Rattle.elementwise.specs.Elementwise.{Tensor, stepNumbers, outNumbers}
 use Rattle.judge.specs.declared.Refusal.{Refusal}
 use Rattle.evaluation.specs.Evaluated.{refusalOf}
 
@@ -17,11 +17,11 @@ three r = (r .number, r .a, r .b)
 
 -- an op that stops, at this op and element, after these values
 pub zero-answers : (vs : List Tensor) (op element : ℕ)
-    → (numbersOf (Zero op element) ≡ three (refusalOf (stopped vs op element))) × (outNumbers op (stops element) ≡ three (refusalOf (stopped vs op element)))
+    → (stepNumbers (Zero op element) ≡ three (refusalOf (stopped vs op element))) × (outNumbers op (stops element) ≡ three (refusalOf (stopped vs op element)))
 zero-answers vs op element = (refl, refl)
 
 -- an op that fills its stretch
-pub filled-answers : (vs : List Tensor) (op : ℕ) (v : Tensor) → (numbersOf Filled ≡ three (refusalOf (results vs))) × (outNumbers op (gives v) ≡ three (refusalOf (results vs)))
+pub filled-answers : (vs : List Tensor) (op : ℕ) (v : Tensor) → (stepNumbers Filled ≡ three (refusalOf (results vs))) × (outNumbers op (gives v) ≡ three (refusalOf (results vs)))
 filled-answers vs op v = (refl, refl)
 
 -- one division: its first number is the refusal's

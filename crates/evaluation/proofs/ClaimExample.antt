@@ -8,7 +8,7 @@ use Prim.Native.Nat.{ℕ, zero, suc, _<_}
 use native.Mathlib.Nat.{not-suc-le-zero, le-of-suc-le-suc}
 use lib.ListN.{length, getD}
 use Rattle.lists.specs.Lists.{tab}
-use Rattle.run.specs.Run.{End, ended, met, stuck, resultsOf}
+use Rattle.run.specs.Run.{RunEnd, ended, met, stuck, resultsOf}
 use Rattle.run.specs.Tree.{Tree, countFrom, comb}
 use Rattle.run.specs.Ways.{OrderOf, TreesAllowed, sizesAt, freeRun}
 use Rattle.run.proofs.WaysLaw.{text-is-order, combs-allowed}
@@ -24,7 +24,7 @@ use Rattle.evaluation.specs.Evaluated.{tensorsOf}
 use Rattle.evaluation.specs.Order.{OrderFreeAnswer}
 
 -- what the table holds for value i at a run's end
-abbrev pub heldFor : ℕ → End Tensor ℕ → Option Tensor
+abbrev pub heldFor : ℕ → RunEnd Tensor ℕ → Option Tensor
 heldFor i (ended t) = getD t i none
 heldFor i (met t k w) = getD t i none
 heldFor i (stuck k) = none
@@ -37,7 +37,7 @@ held-at (suc n) f (suc i) h = held-at n (λ k. f (suc k)) i (le-of-suc-le-suc h)
 -- an accepted text whose reductions start from identities, and a store of results of which demand 3 is claimed
 module _ (text inputs store : List ℕ) (accepted : verdict text .number ≡ 0) (starts : StartsAtIdentity (nodesOf text))
     (claim : OrderFreeAnswer text inputs 0 store) where
-  abbrev pub ranBy : List ℕ → (ℕ → ℕ → Tree) → End Tensor ℕ
+  abbrev pub ranBy : List ℕ → (ℕ → ℕ → Tree) → RunEnd Tensor ℕ
   ranBy order trees = freeRun hlo (nodesOf text) (tensorsOf text inputs) order trees 0
 
   -- the text's own order, and the fold's own trees

@@ -10,7 +10,7 @@ use borrow.Rule.Slice.PartMut.{putMid, postOf, post-is}
 use Rattle.run.specs.Run.{Out, gives, stops}
 use Rattle.elementwise.specs.declared.Step.{Step}
 use Rattle.elementwise.specs.declared.Step.the-variants.{Filled, Zero}
-use Rattle.elementwise.specs.Elementwise.{Tensor, numbersOf}
+use Rattle.elementwise.specs.Elementwise.{Tensor, stepNumbers}
 use Rattle.values.specs.declared.Values.{Values}
 use Rattle.offsets.specs.Offsets.{sizeAt, offsetAt, neededOf}
 use Rattle.offsets.proofs.OffsetsLaw.{offset-next, offset-turn, within}
@@ -46,7 +46,7 @@ module _ (at end : ℕ) (store : List ℕ) (h : at ≤ end) (l : end ≤ length 
         → Done number m r (take (end - at) (drop at store)) ys → r ≡ Filled → zs ≡ take (end - at) (drop at (putMid at (end - at) store ys))
         → Written number m at end Filled done (putMid at (end - at) done zs) store (putMid at (end - at) store ys)
     filled (stops k) r ys zs long d f q =
-        let o : _≡_ {A = ℕ} 0 12 = ap (λ n. n .0) (ap numbersOf (sym f) ∙ d .answers) in
+        let o : _≡_ {A = ℕ} 0 12 = ap (λ n. n .0) (ap stepNumbers (sym f) ∙ d .answers) in
         absurd (omega arith)
     filled (gives v) r ys zs long d f q =
         let whole : zs ≡ v =
@@ -61,11 +61,11 @@ module _ (at end : ℕ) (store : List ℕ) (h : at ≤ end) (l : end ≤ length 
     pub unfilled : (m : Out Tensor ℕ) (k z : ℕ) (r : Step) (ys : List ℕ) → Done number m r (take (end - at) (drop at store)) ys → r ≡ Zero k z
         → Written number m at end (Zero k z) done done store (putMid at (end - at) store ys)
     unfilled (gives v) k z r ys d f =
-        let o : _≡_ {A = ℕ} 12 0 = ap (λ n. n .0) (ap numbersOf (sym f) ∙ d .answers) in
+        let o : _≡_ {A = ℕ} 12 0 = ap (λ n. n .0) (ap stepNumbers (sym f) ∙ d .answers) in
         absurd (omega arith)
     unfilled (stops w) k z r ys d f =
         record {
-          answers = ap numbersOf (sym f) ∙ d .answers;
+          answers = ap stepNumbers (sym f) ∙ d .answers;
           done-is = refl;
           store-is = rw (d .leaves, lent-length, post-is at end store h);
         }

@@ -13,7 +13,7 @@ use borrow.Author.Tests.{eq-eqb, eqb-true, ltb-false}
 use Rattle.lists.specs.Lists.{pick, All, concat}
 use Rattle.lists.proofs.TabLaw.{getD-tab, length-tab}
 use Rattle.lists.proofs.AllLaw.{all-map}
-use Rattle.run.specs.Run.{Out, gives, stops, Answer, results, stopped, End, ended, Claim, evaluateFrom}
+use Rattle.run.specs.Run.{Out, gives, stops, Answer, results, stopped, RunEnd, ended, Claim, evaluateFrom}
 use Rattle.run.specs.Ways.{languageOf, freeRun}
 use Rattle.elementwise.specs.Elementwise.{Tensor}
 use Rattle.ops.specs.Ops.{Node, hlo}
@@ -26,7 +26,7 @@ use Rattle.values.specs.Values.{noValue, opsOf, valuesIn, valuesOf}
 use Rattle.offsets.specs.Offsets.{sizeAt, offsetAt, neededOf}
 use Rattle.verify.specs.Verify.{verdict}
 use Rattle.facts.specs.Facts.{nodeType}
-use Rattle.nodes.specs.Nodes.{nodeAt, inputTypes, nodesIn, nodesOf, typesOf}
+use Rattle.nodes.specs.Nodes.{nodeAt, inputTypes, nodesIn, nodesOf, inputTypesOf}
 use Rattle.nodes.proofs.AcceptedLaw.{accepted-program, text-order-free}
 use Rattle.layout.specs.Layout.{valueIn, tensorsIn}
 use Rattle.layout.proofs.LayoutLaw.{tensors-concat, tensors-kept}
@@ -76,8 +76,8 @@ module _ (text inputs old : List ℕ) (e : verdict text .number ≡ 0) where
 
 module _ (text inputs : List ℕ) (full : length inputs ≡ inputSlots (valuesOf text)) (none : firstForeign (valuesOf text) inputs ≡ inputSlots (valuesOf text)) where
   -- they hold values of their types
-  inputs-typed : HoldAll (typesOf text) (tensorsOf text inputs)
-  unfolding typesOf inputTypes tensorsOf valuesOf sizeAt
+  inputs-typed : HoldAll (inputTypesOf text) (tensorsOf text inputs)
+  unfolding inputTypesOf inputTypes tensorsOf valuesOf sizeAt
   inputs-typed =
       let vs = valuesIn text (programOf text) in
       hold-tab (vs .inputs) (λ i. nodeType (getD (vs .list) i noValue .ty)) (valueIn vs inputs) (inputs-hold vs inputs full none)
@@ -106,7 +106,7 @@ map-same : {A B : Type 0} (f g : A → B) (l : List A) → All (λ x. f x ≡ g 
 map-same f g [] a = refl
 map-same f g (x ∷ l) a = λ i. a .0 i ∷ map-same f g l (a .1) i
 
-module _ (text : List ℕ) (e : End Tensor ℕ) where
+module _ (text : List ℕ) (e : RunEnd Tensor ℕ) where
   abbrev vs : Values
   vs = valuesOf text
 
@@ -170,7 +170,7 @@ module _ (text : List ℕ) (e : End Tensor ℕ) where
 pub order-free-answer : (text inputs old : List ℕ) (r : Refusal) (store : List ℕ) → answer r store ≡ evaluated text inputs old → OrderFreeAnswer text inputs (r .number) store
 unfolding OrderFreeAnswer evaluated ran evaluationOf
 order-free-answer text inputs old r store is e starts order o trees t =
-    let end : End Tensor ℕ = freeRun hlo (nodesOf text) (tensorsOf text inputs) order trees 0 in
+    let end : RunEnd Tensor ℕ = freeRun hlo (nodesOf text) (tensorsOf text inputs) order trees 0 in
     subst (ClaimedBy text end) (sym is)
     (rw (eq-eqb (verdict text .number) 0 e) (claimed-fitted text end inputs old (λ full none.
     claimed-answer text end e (neededOf (valuesOf text)) old (evaluationOf text inputs) (evaluation-kept text inputs full none e)

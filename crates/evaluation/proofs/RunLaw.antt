@@ -9,7 +9,7 @@ use lib.Seq.{length-take-le, take-at}
 use Rattle.run.specs.Run.{Out, gives, stops, onOut}
 use Rattle.elementwise.specs.declared.Step.{Step}
 use Rattle.elementwise.specs.declared.Step.the-variants.{Filled, Zero}
-use Rattle.elementwise.specs.Elementwise.{Tensor, numbersOf, outNumbers}
+use Rattle.elementwise.specs.Elementwise.{Tensor, stepNumbers, outNumbers}
 use Rattle.judge.specs.declared.Refusal.{Refusal}
 use Rattle.judge.specs.Judge.{refuse, accepted}
 use Rattle.program.specs.declared.Program.{Program as Places}
@@ -21,25 +21,25 @@ use Rattle.offsets.proofs.OffsetsLaw.{values-read, offset-next, offset-le}
 use Rattle.verify.specs.Verify.{verdict}
 use Rattle.nodes.proofs.AcceptedLaw.{accepted-elements}
 use Rattle.inputs.specs.Inputs.{inputSlots, firstForeign}
-use Rattle.steps.specs.Steps.{opMeaning, Held, Accepts}
+use Rattle.steps.specs.Steps.{opMeaning, ValuesHeld, Accepts}
 use Rattle.evaluation.specs.Evaluated.{ran, answer}
-use Rattle.evaluation.specs.State.{State, Written, zeroed, copied, Started}
+use Rattle.evaluation.specs.State.{State, Written, zeroed, copied, InputsStarted}
 use Rattle.evaluation.proofs.StateLaw.{drop-two, drop-further, within-needed, first-slots, state-start, state-next, state-stop, state-end, ran-copied}
 
 -- a stop is no tensor, and a tensor no stop
-module _ (number : ℕ) (m : Out Tensor ℕ) (r : Step) (e : numbersOf r ≡ outNumbers number m) where
+module _ (number : ℕ) (m : Out Tensor ℕ) (r : Step) (e : stepNumbers r ≡ outNumbers number m) where
   filled-gives : r ≡ Filled → (v : Tensor) × (m ≡ gives v)
-  filled-gives f = by-out m (ap numbersOf (sym f) ∙ e)
+  filled-gives f = by-out m (ap stepNumbers (sym f) ∙ e)
     where
-      by-out : (o : Out Tensor ℕ) → numbersOf Filled ≡ outNumbers number o → (v : Tensor) × (o ≡ gives v)
+      by-out : (o : Out Tensor ℕ) → stepNumbers Filled ≡ outNumbers number o → (v : Tensor) × (o ≡ gives v)
       by-out (gives v) q = (v, refl)
       by-out (stops w) q = let z : _≡_ {A = ℕ} 0 12 = ap (λ n. n .0) q in absurd (omega arith)
 
   -- an op that answers k and z has met a zero divisor, and its three numbers are those of refusal 12
   zero-stops : (k z : ℕ) → r ≡ Zero k z → (w : ℕ) × (m ≡ stops w) × (refuse 12 k z ≡ refuse 12 number w)
-  zero-stops k z f = by-out m (ap numbersOf (sym f) ∙ e)
+  zero-stops k z f = by-out m (ap stepNumbers (sym f) ∙ e)
     where
-      by-out : (o : Out Tensor ℕ) → numbersOf (Zero k z) ≡ outNumbers number o → (w : ℕ) × (o ≡ stops w) × (refuse 12 k z ≡ refuse 12 number w)
+      by-out : (o : Out Tensor ℕ) → stepNumbers (Zero k z) ≡ outNumbers number o → (w : ℕ) × (o ≡ stops w) × (refuse 12 k z ≡ refuse 12 number w)
       by-out (gives v) q = let z : _≡_ {A = ℕ} 12 0 = ap (λ n. n .0) q in absurd (omega arith)
       by-out (stops w) q = (w, refl, ap (λ n. refuse (n .0) (n .1) (n .2)) q)
 
@@ -103,9 +103,9 @@ module _ (text : List ℕ) (p : Places) (vs : Values) (starts : List ℕ) (a : A
   own : Accepts text (programOf text) (valuesOf text) starts
   own = record { verdict = a .verdict; program = refl; values = refl; offsets = subst (λ (ws : Values). starts ≡ offsetsOf ws) (a .values) (a .offsets) }
 
-  pub run-start : (done store : List ℕ) → Started vs done store → State text (take (inputSlots vs) store) store 0 done store
+  pub run-start : (done store : List ℕ) → InputsStarted vs done store → State text (take (inputSlots vs) store) store 0 done store
   run-start done store =
-      as-read (λ q ws. Started ws done store → State text (take (inputSlots ws) store) store 0 done store)
+      as-read (λ q ws. InputsStarted ws done store → State text (take (inputSlots ws) store) store 0 done store)
       (λ s.
       let le : inputSlots (valuesOf text) ≤ neededOf (valuesOf text) = rw (first-slots text done store) (within-needed text 0 (omega arith)) in
       let r = s .room in
@@ -113,8 +113,8 @@ module _ (text : List ℕ) (p : Places) (vs : Values) (starts : List ℕ) (a : A
       state-start text done store (omega arith) (omega arith) (s .same) (s .fit))
 
   module _ (inputs old : List ℕ) (k : ℕ) (done store : List ℕ) (s : State text inputs old k done store) where
-    pub run-held : Held vs (vs .inputs + k) done
-    run-held = as-read (λ q ws. Held ws (ws .inputs + k) done) (s .held)
+    pub run-held : ValuesHeld vs (vs .inputs + k) done
+    run-held = as-read (λ q ws. ValuesHeld ws (ws .inputs + k) done) (s .held)
 
     module _ (l : k < opsOf p) (r : Step) (done2 store2 : List ℕ)
         (w : Written k (opMeaning text k done) (offsetAt vs (vs .inputs + k)) (offsetAt vs (vs .inputs + k + 1)) r done done2 store store2) where
@@ -165,7 +165,7 @@ module _ (text : List ℕ) (p : Places) (vs : Values) (starts : List ℕ) (a : A
         let d = length-drop (length inputs) s in
         omega (arith, e, l, d)
 
-    pub copied-started : Started vs (copied inputs done) (copied inputs store)
+    pub copied-started : InputsStarted vs (copied inputs done) (copied inputs store)
     copied-started =
         let front : (s : List ℕ) → take (inputSlots vs) (copied inputs s) ≡ inputs = λ s. take-at inputs (drop (length inputs) s) (inputSlots vs) e in
         record {

@@ -27,10 +27,10 @@ use Rattle.layout.specs.Layout.{valueIn, tensorsIn}
 use Rattle.layout.proofs.LayoutLaw.{tensors-concat, value-kept, tensors-kept, value-written, tensors-next}
 use Rattle.inputs.specs.Inputs.{inputSlots, firstForeign}
 use Rattle.inputs.proofs.InputsLaw.{inputs-hold}
-use Rattle.steps.specs.Steps.{opMeaning, Held}
+use Rattle.steps.specs.Steps.{opMeaning, ValuesHeld}
 use Rattle.steps.proofs.StepsLaw.{op-holds}
 use Rattle.evaluation.specs.Evaluated.{tensorsOf, evaluationOf, refusalOf, storeAfter, ran, answer}
-use Rattle.evaluation.specs.State.{before, State, copied}
+use Rattle.evaluation.specs.State.{slotsBeforeOp, State, copied}
 
 take-two : (u v z : List ℕ) (a b : ℕ) → length u ≡ a → length v ≡ b → take (a + b) (u ++ (v ++ z)) ≡ u ++ v
 take-two u v z a b e f = ap (take (a + b)) (sym (append-assoc u v z)) ∙ take-at (u ++ v) z (a + b) (length-append u v ∙ (omega (arith, e, f)))
@@ -45,11 +45,11 @@ drop-further a b x y h e =
     subst (λ (k : ℕ). drop k x ≡ drop k y) z (sym (drop-drop (b - a) a x) ∙ ap (drop (b - a)) e ∙ drop-drop (b - a) a y)
 
 -- the slots needed are those of every value
-needed-is : (text : List ℕ) → neededOf (valuesOf text) ≡ before text (opsOf (programOf text))
+needed-is : (text : List ℕ) → neededOf (valuesOf text) ≡ slotsBeforeOp text (opsOf (programOf text))
 unfolding neededOf valuesOf valuesIn
 needed-is text = refl
 
-pub within-needed : (text : List ℕ) (k : ℕ) → k ≤ opsOf (programOf text) → before text k ≤ neededOf (valuesOf text)
+pub within-needed : (text : List ℕ) (k : ℕ) → k ≤ opsOf (programOf text) → slotsBeforeOp text k ≤ neededOf (valuesOf text)
 within-needed text k h = rw (needed-is text) (offset-le (valuesOf text) (valuesOf text .inputs + k) (valuesOf text .inputs + opsOf (programOf text)) (omega arith))
 
 -- behind the last op there is none
@@ -97,14 +97,14 @@ module _ (text inputs old : List ℕ) (e : verdict text .number ≡ 0) (k : ℕ)
   n = valuesOf text .inputs + k
 
   abbrev at : ℕ
-  at = before text k
+  at = slotsBeforeOp text k
 
   -- what op k gives is of the type of value n
   pub gives-held : (v : Tensor) → opMeaning text k done ≡ gives v → Holds (getD (vs .list) n noValue .ty .element) (sizeAt vs n) v
   unfolding valuesOf
   gives-held v r = op-holds text e k l done (s .held) v r
 
-  held-next : (v rest : List ℕ) → Holds (getD (vs .list) n noValue .ty .element) (sizeAt vs n) v → Held vs (n + 1) (take at done ++ (v ++ rest))
+  held-next : (v rest : List ℕ) → Holds (getD (vs .list) n noValue .ty .element) (sizeAt vs n) v → ValuesHeld vs (n + 1) (take at done ++ (v ++ rest))
   held-next v rest h =
       let long : length (take at done) ≡ at = length-take-le at done (s .held .room) in
       record {
@@ -126,12 +126,12 @@ module _ (text inputs old : List ℕ) (e : verdict text .number ≡ 0) (k : ℕ)
   state-next v rest behind r d =
       let h = gives-held v r in
       let same : n + 1 ≡ vs .inputs + (k + 1) = omega arith in
-      let next : at + sizeAt vs n ≡ before text (k + 1) = sym (offset-next vs n) ∙ ap (offsetAt vs) same in
+      let next : at + sizeAt vs n ≡ slotsBeforeOp text (k + 1) = sym (offset-next vs n) ∙ ap (offsetAt vs) same in
       let long : length (take at done) ≡ at = length-take-le at done (s .held .room) in
       let long2 : length (take at store) ≡ at = ap length (s .front) ∙ long in
       let done2 : List ℕ = take at done ++ (v ++ rest) in
       record {
-        held = subst (λ (m : ℕ). Held vs m done2) same (held-next v rest h);
+        held = subst (λ (m : ℕ). ValuesHeld vs m done2) same (held-next v rest h);
         front = subst (λ (m : ℕ). take m (take at store ++ (v ++ behind)) ≡ take m done2) next
             (take-two (take at store) v behind at (sizeAt vs n) long2 (h .sized) ∙ ap (λ (u : List ℕ). u ++ v) (s .front) ∙ sym (take-two (take at done) v rest at (sizeAt vs n) long (h .sized)));
         rest = subst (λ (m : ℕ). drop m (take at store ++ (v ++ behind)) ≡ drop m old) next
@@ -164,7 +164,7 @@ state-end text inputs old done store s =
     let vs = valuesOf text in
     let k = opsOf (programOf text) in
     let needed : ℕ = neededOf vs in
-    let at : ℕ = before text k in
+    let at : ℕ = slotsBeforeOp text k in
     let is : evaluationOf text inputs ≡ results (tensorsIn vs done (vs .inputs + k)) = sym (s .goes-on) ∙ ap (λ (os : List Node). evaluateFrom (languageOf hlo) k os (tensorsIn vs done (vs .inputs + k)) 0) (no-ops text) in
     let all : concat (tensorsIn vs done (vs .inputs + k)) ≡ take at store = tensors-concat vs done (vs .inputs + k) (s .held .room) ∙ sym (s .front) in
     sym (ap (λ (a : Answer Tensor ℕ). answer (refusalOf a) (storeAfter needed a old)) is
@@ -182,7 +182,7 @@ module _ (text done store : List ℕ) where
   unfolding inputSlots
   slots-are = refl
 
-  pub first-slots : inputSlots (valuesOf text) ≡ before text 0
+  pub first-slots : inputSlots (valuesOf text) ≡ slotsBeforeOp text 0
   first-slots = slots-are ∙ ap (offsetAt (valuesOf text)) (sym (add-zero (valuesOf text .inputs)))
 
   pub state-start : slots ≤ length store → slots ≤ length done → take slots done ≡ take slots store → firstForeign (valuesOf text) (take slots store) ≡ slots

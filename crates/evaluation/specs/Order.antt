@@ -4,7 +4,7 @@ use mathlib.Core.Path.{_≡_}
 use mathlib.Core.List.{List, map}
 use mathlib.Core.Option.{Option, some}
 use Prim.Native.Nat.{ℕ}
-use Rattle.run.specs.Run.{End, ended, met, resultsOf}
+use Rattle.run.specs.Run.{RunEnd, ended, met, resultsOf}
 use Rattle.run.specs.Tree.{Tree}
 use Rattle.run.specs.Ways.{OrderOf, TreesAllowed, freeRun}
 use Rattle.elementwise.specs.Elementwise.{Tensor}
@@ -18,7 +18,7 @@ use Rattle.evaluation.specs.Evaluated.{tensorsOf}
 
 -- What is claimed of a free run's end by the bench's answer, the refusal's number and the store afterwards. Results: the run's table holds for every
 -- input and op the tensor that stands in the store, and its results are the store's. A zero divisor: the run meets one.
-pub record Claimed (text : List ℕ) (number : ℕ) (store : List ℕ) (e : End Tensor ℕ) : Type 0 where
+pub record Claimed (text : List ℕ) (number : ℕ) (store : List ℕ) (e : RunEnd Tensor ℕ) : Type 0 where
   pub values : number ≡ 0 → e ≡ ended (map some (tensorsIn (valuesOf text) store (valuesOf text .count)))
   pub returned : number ≡ 0 → resultsOf (nodesOf text .returns) e ≡ some (map (valueIn (valuesOf text) store) (nodesOf text .returns))
   pub zero-divisor : number ≡ 12 → (t : List (Option Tensor)) × (k : ℕ) × (element : ℕ) × (e ≡ met t k element)

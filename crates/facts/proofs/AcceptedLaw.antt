@@ -27,7 +27,7 @@ use Rattle.opcheck.specs.declared.Operation.{Operation}
 use Rattle.opcheck.specs.Judged.{takenAt, takenByTables, brokenBy}
 use Rattle.opcheck.specs.Accepted.{Granted}
 use Rattle.opcheck.proofs.GrantedLaw.{granted, Taken, taken}
-use Rattle.facts.specs.Facts.{Shaped, ruleOf, operandsOf, scalarsOf, hasBody, booleanOf, isBoolean, kindBy, OneNumber, RowFor, AcceptedAs}
+use Rattle.facts.specs.Facts.{Shaped, ruleOfKind, operandCounts, scalarsOf, hasBody, booleanKind, isBoolean, kindBy, OneNumber, RowFor, AcceptedAs}
 
 only-i1 : (e : ElementType) → boolOf e ≡ true → e ≡ I1
 only-i1 I1 q = refl
@@ -74,12 +74,12 @@ unfolding rowAt ops
 row-for d body i l =
     let rows = rowsFrom 0 ops in
     record {
-      rule = same-field (λ r. r .rule) (λ r. ruleOf (kindBy d body (r .class))) rows refl i l;
-      least = same-field (λ r. r .least) (λ r. operandsOf (kindBy d body (r .class)) .0) rows refl i l;
-      most = same-field (λ r. r .most) (λ r. operandsOf (kindBy d body (r .class)) .1) rows refl i l;
+      rule = same-field (λ r. r .rule) (λ r. ruleOfKind (kindBy d body (r .class))) rows refl i l;
+      least = same-field (λ r. r .least) (λ r. operandCounts (kindBy d body (r .class)) .0) rows refl i l;
+      most = same-field (λ r. r .most) (λ r. operandCounts (kindBy d body (r .class)) .1) rows refl i l;
       body = same-field (λ r. r .body) (λ r. hasBody (kindBy d body (r .class))) rows refl i l;
       scalars = same-field (λ r. r .scalars) (λ r. scalarsOf (kindBy d body (r .class))) rows refl i l;
-      boolean = same-field (λ r. isBoolean (r .result)) (λ r. booleanOf (kindBy d body (r .class))) rows refl i l;
+      boolean = same-field (λ r. isBoolean (r .result)) (λ r. booleanKind (kindBy d body (r .class))) rows refl i l;
     }
 
 -- ---- the verdicts
@@ -88,7 +88,7 @@ pub accepted : (kind : Kind) (row : Row) (o : Operation) → RowFor kind row →
     → takenByTables row o ≡ true → brokenBy (row .rule) o ≡ 0 → AcceptedAs kind o
 accepted kind row o r h n e f =
     let t = taken row o e in
-    let l : operandsOf kind .0 ≤ o .arity = subst (λ (k : ℕ). k ≤ o .arity) (r .least) (t .least) in
+    let l : operandCounts kind .0 ≤ o .arity = subst (λ (k : ℕ). k ≤ o .arity) (r .least) (t .least) in
     record {
       shaped = h;
       number = n;

@@ -22,7 +22,7 @@ use Rattle.dimrules.specs.Dims.{listOf, dim, keptBelow}
 use Rattle.dimrules.specs.Types.{typeAt, sumOfDims}
 use Rattle.dimrules.specs.declared.TensorType.{TensorType}
 use Rattle.dimrules.specs.declared.Numbers.{Numbers}
-use Rattle.rules.specs.Facts.{BroadcastHolds as BroadcastGranted, TransposeHolds as TransposeGranted, ReduceHolds as ReduceGranted, ConcatenateHolds as ConcatenateGranted}
+use Rattle.rules.specs.Facts.{BroadcastGranted, TransposeGranted, ReduceGranted, ConcatenateGranted}
 use Rattle.opcheck.specs.declared.Operation.{Operation}
 use Rattle.facts.specs.Facts.{ShapeRead, ListRead, Shaped}
 use Rattle.facts.proofs.BridgeLaw.{rank-is, count-is, below-rank}

@@ -9,7 +9,7 @@ use lib.ListN.{length, getD, take}
 use Rattle.lists.specs.Lists.{All}
 use Rattle.lists.proofs.TabLaw.{length-tab, getD-tab}
 use Rattle.lists.proofs.AllLaw.{all-tab}
-use Rattle.element.specs.Types.{Value}
+use Rattle.element.specs.Types.{SlotHolds}
 use Rattle.element.specs.declared.ElementType.{ElementType}
 use Rattle.shape.specs.Index.{size}
 use Rattle.shape.specs.Dims.{dimsOf}
@@ -22,8 +22,8 @@ use Rattle.ops.specs.declared.Kind.the-variants.{Constant, Iota, Elementwise, P
 use Rattle.ops.specs.OpAttributes.{naturals}
 use Rattle.ops.proofs.NaturalLaw.{naturals-numbers}
 use Rattle.apply.specs.Apply.{AreNatural}
-use Rattle.ops.specs.Ops.{TensorType as NodeType, noType, operandElement, operandDims, isSingle}
-use Rattle.ops.specs.Typed.{OperandOf, Operand, Granted as NodeGranted}
+use Rattle.ops.specs.Ops.{TensorType as NodeType, noTensorType, operandElement, operandDims, isSingle}
+use Rattle.ops.specs.Typed.{OperandOf, Operand, NodeGranted}
 use Rattle.dimrules.specs.Dims.{listOf}
 use Rattle.dimrules.specs.Types.{typeAt}
 use Rattle.rules.specs.Facts.{SameTypesHolds}
@@ -36,7 +36,7 @@ use Rattle.facts.proofs.HoldsLaw.{reduce-holds}
 
 -- the same elements under a type with the same meaning
 pub hold-as : {t u : ElementType} {n m : ℕ} {x : Tensor} → t ≡ u → n ≡ m → Holds t n x → Holds u m x
-hold-as {t} {u} {n} {m} {x} e q h = record { sized = h .sized ∙ q; ranged = subst (λ (v : ElementType). All (Value v) x) e (h .ranged) }
+hold-as {t} {u} {n} {m} {x} e q h = record { sized = h .sized ∙ q; ranged = subst (λ (v : ElementType). All (SlotHolds v) x) e (h .ranged) }
 
 move-element : (m : Move) (o : Operation) → Granted (moveRule m) o → typeAt (o .types) 0 .element ≡ o .result .element
 move-element Reshape o g = g .element
@@ -46,8 +46,8 @@ move-element Slice o g = g .element
 move-element Reverse o g = g .types .element
 
 module _ (kind : Kind) (o : Operation) (values : Tensor) (operands : List ℕ) where
-  type-at : (j : ℕ) → j < o .arity → getD (nodeFor kind o values operands .from) j noType ≡ nodeType (typeAt (o .types) j)
-  type-at j l = getD-tab (o .arity) (λ i. nodeType (typeAt (o .types) i)) j noType l
+  type-at : (j : ℕ) → j < o .arity → getD (nodeFor kind o values operands .from) j noTensorType ≡ nodeType (typeAt (o .types) j)
+  type-at j l = getD-tab (o .arity) (λ i. nodeType (typeAt (o .types) i)) j noTensorType l
 
   pub element-at : (j : ℕ) → j < o .arity → operandElement (nodeFor kind o values operands) j ≡ typeAt (o .types) j .element
   element-at j l = ap (λ (t : NodeType). t .element) (type-at j l)

@@ -14,7 +14,7 @@ use Rattle.shape.specs.Index.{at, size}
 use Rattle.shape.specs.Dims.{dimsOf, Sized, Fills}
 use Rattle.shape.specs.declared.Shape.{Shape}
 use Rattle.maps.specs.Concatenation.{noShape, shapesOf, concatenated}
-use Rattle.maps.specs.Holds.{ConcatenateHolds, Inputs}
+use Rattle.maps.specs.Holds.{ConcatenateHolds, InputsLaid}
 use Rattle.maps.proofs.AttributeLaw.{numbers-at}
 use Rattle.elementwise.specs.Elementwise.{Tensor, Holds, divided}
 use Rattle.ops.specs.declared.Kind.the-variants.{Constant, Quotient, Concatenate}
@@ -24,7 +24,7 @@ use Rattle.ops.specs.Ops.{TensorType as NodeType, wayOf, hlo}
 use Rattle.dimrules.specs.Dims.{listOf, num}
 use Rattle.dimrules.specs.Types.{typeAt}
 use Rattle.opcheck.specs.declared.Operation.{Operation}
-use Rattle.facts.specs.Facts.{AcceptedAs, nodeType, integersOf, nodeFor, Arguments}
+use Rattle.facts.specs.Facts.{AcceptedAs, nodeType, integersOf, nodeFor, ArgumentsRead}
 use Rattle.facts.proofs.BridgeLaw.{lone, alike-size}
 use Rattle.facts.proofs.AlikeLaw.{same-sizes}
 use Rattle.facts.proofs.HoldsLaw.{dimsFrom, concatenate-holds}
@@ -44,7 +44,7 @@ quotient-ready op o a x y out p q f =
 
 -- and what it gives is what the op gives
 pub quotient-is : (op : Division) (o : Operation) → AcceptedAs (Quotient op) o → (values : Tensor) (operands : List ℕ) (args : List Tensor) (x y z out : Tensor)
-    → Arguments o args x y z → Fills out (o .result .shape)
+    → ArgumentsRead o args x y z → Fills out (o .result .shape)
     → byFold hlo (wayOf (nodeFor (Quotient op) o values operands) (Quotient op) args) ≡ divided op (o .result .element) (length out) x y
 quotient-is op o a values operands args x y z out g f = let l : 2 ≤ o .arity = a .least in rw (g .operand-0 (omega arith), g .operand-1 l, f)
 
@@ -67,7 +67,7 @@ module _ (o : Operation) (a : AcceptedAs Concatenate o) (shapes : List Shape)
       (subst (λ (k : ℕ). ConcatenateHolds k (dimsFrom o) (dimsOf (o .result .shape))) (lone (o .a) (a .number)) (concatenate-holds o (a .shaped) _ (a .granted)))
 
   pub concatenate-inputs : (x : Tensor) (places : List ℕ)
-      → ((j : ℕ) → j < o .arity → at places j + size (dimsOf (typeAt (o .types) j .shape)) ≤ length x) → Inputs x shapes places (o .arity)
+      → ((j : ℕ) → j < o .arity → at places j + size (dimsOf (typeAt (o .types) j .shape)) ≤ length x) → InputsLaid x shapes places (o .arity)
   concatenate-inputs x places laid =
       let few : o .arity ≤ 8 = a .shaped .arity in
       record {

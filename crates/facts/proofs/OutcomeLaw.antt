@@ -15,12 +15,12 @@ use Rattle.ops.specs.declared.Move.the-variants.{Reshape, BroadcastInDim, Trans
 use Rattle.ops.specs.declared.Kind.{Kind}
 use Rattle.ops.specs.declared.Kind.the-variants.{Constant, Iota, Elementwise, Pairwise, Quotient, Compare, Convert, Select, Clamp, Moved, Pad, Concatenate, DynamicSlice, Reduce}
 use Rattle.ops.specs.Ops.{operandElement, moved, wayOf, hlo}
-use Rattle.apply.specs.Apply.{nodeOf, outcome}
+use Rattle.apply.specs.Apply.{nodeOf, taskOutcome}
 use Rattle.apply.proofs.ApplyLaw.{singles}
 use Rattle.dimrules.specs.Types.{typeAt}
 use Rattle.opcheck.specs.declared.Operation.{Operation}
 use Rattle.opcheck.specs.Accepted.{Granted}
-use Rattle.facts.specs.Facts.{moveRule, AcceptedAs, taskOf, nodeFor, DoneByTask, Arguments}
+use Rattle.facts.specs.Facts.{moveRule, AcceptedAs, taskOf, nodeFor, DoneByTask, ArgumentsRead}
 use Rattle.facts.proofs.NodeLaw.{element-at, dims-at}
 
 module _ (o : Operation) (values : Tensor) (operands : List ℕ) where
@@ -46,9 +46,9 @@ module _ (o : Operation) (values : Tensor) (operands : List ℕ) where
           let e : typeAt (o .types) 0 .shape .rank ≡ 0 = (let s = a .granted .starts in omega arith) in
           rw e
 
-  pub outcome-is : (kind : Kind) → AcceptedAs kind o → DoneByTask kind → (args : List Tensor) (starts : List ℕ) (x y z : Tensor) → Arguments o args x y z
+  pub outcome-is : (kind : Kind) → AcceptedAs kind o → DoneByTask kind → (args : List Tensor) (starts : List ℕ) (x y z : Tensor) → ArgumentsRead o args x y z
       → (kind ≡ DynamicSlice → map (λ s. getD s 0 0) (drop 1 args) ≡ take (typeAt (o .types) 0 .shape .rank) starts)
-      → outcome (taskOf kind o) kind starts x y z ≡ byFold hlo (wayOf (nodeFor kind o values operands) kind args)
+      → taskOutcome (taskOf kind o) kind starts x y z ≡ byFold hlo (wayOf (nodeFor kind o values operands) kind args)
   outcome-is Constant a n args starts x y z g s = absurd n
   outcome-is (Quotient op) a n args starts x y z g s = absurd n
   outcome-is Concatenate a n args starts x y z g s = absurd n

@@ -9,17 +9,17 @@ use Rattle.shape.specs.Index.{at}
 use Rattle.shape.specs.Dims.{dimsOf, Fills}
 use Rattle.shape.proofs.IndexLaw.{dim-le-volume}
 use Rattle.maps.specs.Holds.{Stretches, TransposeHolds, SliceHolds, PadHolds, DynamicSliceHolds, IotaHolds}
-use Rattle.elementwise.specs.Elementwise.{Tensor, spreadSize, Sized as TwoSized}
+use Rattle.elementwise.specs.Elementwise.{Tensor, spreadSize, TwoSized}
 use Rattle.ops.specs.declared.Move.{Move}
 use Rattle.ops.specs.declared.Move.the-variants.{Reshape, BroadcastInDim, Transpose, Slice, Reverse}
 use Rattle.ops.specs.declared.Kind.{Kind}
 use Rattle.ops.specs.declared.Kind.the-variants.{Constant, Iota, Elementwise, Pairwise, Quotient, Compare, Convert, Select, Clamp, Moved, Pad, Concatenate, DynamicSlice, Reduce}
-use Rattle.apply.specs.Apply.{AreNatural, MoveReady, Ready}
+use Rattle.apply.specs.Apply.{AreNatural, MoveReady, TaskReady}
 use Rattle.dimrules.specs.Dims.{listOf, num}
 use Rattle.dimrules.specs.Types.{typeAt}
 use Rattle.dimrules.specs.declared.TensorType.{TensorType}
 use Rattle.dimrules.specs.declared.Numbers.{Numbers}
-use Rattle.rules.specs.Facts.{SliceHolds as SliceGranted, PadHolds as PadGranted, DynamicSliceHolds as DynamicSliceGranted}
+use Rattle.rules.specs.Facts.{SliceGranted, PadGranted, DynamicSliceGranted}
 use Rattle.opcheck.specs.declared.Operation.{Operation}
 use Rattle.opcheck.specs.Accepted.{Granted}
 use Rattle.facts.specs.Facts.{ShapeRead, ListRead, Shaped, moveRule, AcceptedAs, taskOf, DoneByTask, Stretched}
@@ -122,7 +122,7 @@ module _ (o : Operation) (h : Shaped o) (x y z out : Tensor) (f : Stretched o x 
 
 -- every class that a task does
 pub ready : (kind : Kind) (o : Operation) → AcceptedAs kind o → DoneByTask kind → (x y z out : Tensor) → Stretched o x y z out
-    → Ready (taskOf kind o) kind x y z out
+    → TaskReady (taskOf kind o) kind x y z out
 ready Constant o a n x y z out f = absurd n
 ready (Quotient op) o a n x y z out f = absurd n
 ready Concatenate o a n x y z out f = absurd n

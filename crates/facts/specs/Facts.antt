@@ -86,38 +86,38 @@ moveRule Slice = SliceRule
 moveRule Reverse = ReverseRule
 
 -- the class of constraints
-abbrev pub ruleOf : Kind → Rule
-ruleOf Constant = ConstantRule
-ruleOf Iota = IotaRule
-ruleOf (Elementwise op) = unaryRule op
-ruleOf (Pairwise op) = SameTypes
-ruleOf (Quotient op) = SameTypes
-ruleOf (Compare d) = CompareRule
-ruleOf Convert = ConvertRule
-ruleOf Select = SelectRule
-ruleOf Clamp = ClampRule
-ruleOf (Moved m) = moveRule m
-ruleOf Pad = PadRule
-ruleOf Concatenate = ConcatenateRule
-ruleOf DynamicSlice = DynamicSliceRule
-ruleOf (Reduce body) = ReduceRule
+abbrev pub ruleOfKind : Kind → Rule
+ruleOfKind Constant = ConstantRule
+ruleOfKind Iota = IotaRule
+ruleOfKind (Elementwise op) = unaryRule op
+ruleOfKind (Pairwise op) = SameTypes
+ruleOfKind (Quotient op) = SameTypes
+ruleOfKind (Compare d) = CompareRule
+ruleOfKind Convert = ConvertRule
+ruleOfKind Select = SelectRule
+ruleOfKind Clamp = ClampRule
+ruleOfKind (Moved m) = moveRule m
+ruleOfKind Pad = PadRule
+ruleOfKind Concatenate = ConcatenateRule
+ruleOfKind DynamicSlice = DynamicSliceRule
+ruleOfKind (Reduce body) = ReduceRule
 
 -- the least and the most operands: "concatenate: any, none breaks C3; dynamic_slice: from 1" (01, refusal 7), at most 8 (01, "Sizes", 5)
-abbrev pub operandsOf : Kind → ℕ × ℕ
-operandsOf Constant = (0, 0)
-operandsOf Iota = (0, 0)
-operandsOf (Elementwise op) = (1, 1)
-operandsOf (Pairwise op) = (2, 2)
-operandsOf (Quotient op) = (2, 2)
-operandsOf (Compare d) = (2, 2)
-operandsOf Convert = (1, 1)
-operandsOf Select = (3, 3)
-operandsOf Clamp = (3, 3)
-operandsOf (Moved m) = (1, 1)
-operandsOf Pad = (2, 2)
-operandsOf Concatenate = (0, 8)
-operandsOf DynamicSlice = (1, 8)
-operandsOf (Reduce body) = (2, 2)
+abbrev pub operandCounts : Kind → ℕ × ℕ
+operandCounts Constant = (0, 0)
+operandCounts Iota = (0, 0)
+operandCounts (Elementwise op) = (1, 1)
+operandCounts (Pairwise op) = (2, 2)
+operandCounts (Quotient op) = (2, 2)
+operandCounts (Compare d) = (2, 2)
+operandCounts Convert = (1, 1)
+operandCounts Select = (3, 3)
+operandCounts Clamp = (3, 3)
+operandCounts (Moved m) = (1, 1)
+operandCounts Pad = (2, 2)
+operandCounts Concatenate = (0, 8)
+operandCounts DynamicSlice = (1, 8)
+operandCounts (Reduce body) = (2, 2)
 
 -- every operand but the first is "0-dimensional" in 000's tables: dynamic_slice's start_indices, pad's padding_value, reduce's init_values
 abbrev pub scalarsOf : Kind → Bool
@@ -154,21 +154,21 @@ hasBody DynamicSlice = false
 hasBody (Reduce body) = true
 
 -- the result is a "tensor of boolean type" in 000's table
-abbrev pub booleanOf : Kind → Bool
-booleanOf Constant = false
-booleanOf Iota = false
-booleanOf (Elementwise op) = false
-booleanOf (Pairwise op) = false
-booleanOf (Quotient op) = false
-booleanOf (Compare d) = true
-booleanOf Convert = false
-booleanOf Select = false
-booleanOf Clamp = false
-booleanOf (Moved m) = false
-booleanOf Pad = false
-booleanOf Concatenate = false
-booleanOf DynamicSlice = false
-booleanOf (Reduce body) = false
+abbrev pub booleanKind : Kind → Bool
+booleanKind Constant = false
+booleanKind Iota = false
+booleanKind (Elementwise op) = false
+booleanKind (Pairwise op) = false
+booleanKind (Quotient op) = false
+booleanKind (Compare d) = true
+booleanKind Convert = false
+booleanKind Select = false
+booleanKind Clamp = false
+booleanKind (Moved m) = false
+booleanKind Pad = false
+booleanKind Concatenate = false
+booleanKind DynamicSlice = false
+booleanKind (Reduce body) = false
 
 -- so in a row
 abbrev pub isBoolean : Takes → Bool
@@ -179,12 +179,12 @@ isBoolean Boolean = true
 
 -- a row of the op table for ops of the class
 pub record RowFor (kind : Kind) (row : Row) : Type 0 where
-  pub rule : row .rule ≡ ruleOf kind
-  pub least : row .least ≡ operandsOf kind .0
-  pub most : row .most ≡ operandsOf kind .1
+  pub rule : row .rule ≡ ruleOfKind kind
+  pub least : row .least ≡ operandCounts kind .0
+  pub most : row .most ≡ operandCounts kind .1
   pub body : row .body ≡ hasBody kind
   pub scalars : row .scalars ≡ scalarsOf kind
-  pub boolean : isBoolean (row .result) ≡ booleanOf kind
+  pub boolean : isBoolean (row .result) ≡ booleanKind kind
 
 -- what an op of a class computes, as evaluating takes it: with compare's direction and the operation of reduce's body, which stand in the text
 abbrev pub kindBy : Direction → Body → Class → Kind
@@ -224,11 +224,11 @@ OneNumber (Reduce body) o = Unit {0}
 pub record AcceptedAs (kind : Kind) (o : Operation) : Type 0 where
   pub shaped : Shaped o
   pub number : OneNumber kind o
-  pub least : operandsOf kind .0 ≤ o .arity
-  pub most : o .arity ≤ operandsOf kind .1
+  pub least : operandCounts kind .0 ≤ o .arity
+  pub most : o .arity ≤ operandCounts kind .1
   pub scalars : scalarsOf kind ≡ true → (j : ℕ) → 0 < j → j < o .arity → typeAt (o .types) j .shape .rank ≡ 0
-  pub boolean : booleanOf kind ≡ true → o .result .element ≡ I1
-  pub granted : Granted (ruleOf kind) o
+  pub boolean : booleanKind kind ≡ true → o .result .element ≡ I1
+  pub granted : Granted (ruleOfKind kind) o
 
 -- ---- what evaluating takes
 
@@ -295,7 +295,7 @@ pub record Stretched (o : Operation) (x y z out : Tensor) : Type 0 where
   pub result : Fills out (o .result .shape)
 
 -- of the operands' tensors args, x, y and z are the first three, as far as the op has them
-pub record Arguments (o : Operation) (args : List Tensor) (x y z : Tensor) : Type 0 where
+pub record ArgumentsRead (o : Operation) (args : List Tensor) (x y z : Tensor) : Type 0 where
   pub operand-0 : 0 < o .arity → getD args 0 [] ≡ x
   pub operand-1 : 1 < o .arity → getD args 1 [] ≡ y
   pub operand-2 : 2 < o .arity → getD args 2 [] ≡ z

@@ -9,7 +9,7 @@ use lib.Dec.{T, eqb}
 use lib.ListN.{getD}
 use borrow.Author.Tests.{ne-eqb}
 use Rattle.lists.specs.Lists.{pick}
-use Rattle.grammar.specs.Symbols.{END, End, Program, among, matches, leafKinds, leafCount, kindCount}
+use Rattle.grammar.specs.Symbols.{END, End, Program, amongSymbols, matches, leafKinds, leafCount, kindCount}
 use Rattle.grammar.specs.Grammar.{Production, _⟶_, grammar}
 use Rattle.grammar.specs.Derivation.{_∈_}
 use Rattle.grammar.specs.Machine.{Cell, fails, skips, takes, cell, onCell, step}
@@ -63,7 +63,7 @@ same-eq false true t = absurd t
 same-eq false false t = refl
 
 leafTest : ℕ → List ℕ → Bool
-leafTest l ks = upTo kindCount (λ k. implies (among ks k) (same (eqb l End) (eqb k END)))
+leafTest l ks = upTo kindCount (λ k. implies (amongSymbols ks k) (same (eqb l End) (eqb k END)))
 
 leaf-test : (l : ℕ) → l < leafCount → T (leafTest l (getD leafKinds l []))
 unfolding leafTest leafKinds
@@ -73,8 +73,8 @@ leaf-end : (l k : ℕ) → matches l k ≡ true → eqb l End ≡ eqb k END
 unfolding leafTest matches
 leaf-end l k m =
     let b = leaf-bounds l k m in
-    let t = up-to kindCount (λ k. implies (among (getD leafKinds l []) k) (same (eqb l End) (eqb k END))) k (leaf-test l (b .0)) (b .1) in
-    same-eq (eqb l End) (eqb k END) (implied (among (getD leafKinds l []) k) (same (eqb l End) (eqb k END)) t (true-T (matches l k) m))
+    let t = up-to kindCount (λ k. implies (amongSymbols (getD leafKinds l []) k) (same (eqb l End) (eqb k END))) k (leaf-test l (b .0)) (b .1) in
+    same-eq (eqb l End) (eqb k END) (implied (amongSymbols (getD leafKinds l []) k) (same (eqb l End) (eqb k END)) t (true-T (matches l k) m))
 
 -- one step
 unless : (b x y : Bool) → T (pick b false true) → T (pick b x y) → T y

@@ -12,7 +12,7 @@ use borrow.Author.Tests.{eq-eqb, ne-eqb, le-leb, lt-leb}
 use Rattle.grammar.specs.declared.Step.{Step}
 use Rattle.grammar.specs.Machine.{Cell, fails, skips, takes, cell, onCell, step}
 use Rattle.grammar.specs.Tables.{lettered, rightOf, headOf, tailOf}
-use Rattle.grammar.specs.Advance.{Advance, advance, advanceBy, outcome, Pushed, Advanced}
+use Rattle.grammar.specs.Advance.{Advance, advance, advanceBy, stepOutcome, Pushed, Advanced}
 
 module _ (l : List ℕ) (i kind p : ℕ) (h : i < length l) (e : lettered (getD l i 0) p ≡ cell (getD l i 0) kind) where
   turn : step (drop i l) kind ≡ onCell (lettered (getD l i 0) p) (drop (i + 1) l) (step (drop (i + 1) l) kind)
@@ -43,7 +43,7 @@ turn-end l i kind h = rw (drop-of-length-le l h)
 took : (before : List ℕ) (top kind role t : ℕ) (after : List ℕ) → step (drop top before) kind ≡ takes role (drop t after) →
     take t after ≡ take t before → length after ≡ length before → t ≤ length before → top ≤ t + 10 →
     Advanced before top kind (record { fits = true; role = role; top = t }) after
-unfolding advanceBy outcome
+unfolding advanceBy stepOutcome
 took before top kind role t after e b s w r =
     let n : length before - length (drop t after) ≡ t = simp length-drop (omega arith) in
     let a : after ≡ take t before ++ drop t after = sym (take-append-drop t after) ∙ ap (λ (x : List ℕ). x ++ drop t after) b in
@@ -52,7 +52,7 @@ took before top kind role t after e b s w r =
 -- the answer where it fails
 failed : (before : List ℕ) (top kind t : ℕ) → step (drop top before) kind ≡ fails → t ≡ length before → top ≤ length before →
     Advanced before top kind (record { fits = false; role = 0; top = t }) before
-unfolding advanceBy outcome
+unfolding advanceBy stepOutcome
 failed before top kind t e n h =
     record { exact = rw (e, n); steps = sym e; size = refl; within = omega arith; room = omega arith }
 

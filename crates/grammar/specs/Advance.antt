@@ -24,9 +24,9 @@ advanceBy l skips = advance false 0 (length l) l
 advanceBy l (takes role rest) = advance true role (length l - length rest) (take (length l - length rest) l ++ rest)
 
 -- a step by what the code answers: whether the token fits, its role, what is then expected
-unfoldable pub outcome : Bool → ℕ → List ℕ → Cell
-outcome true role rest = takes role rest
-outcome false role rest = fails
+unfoldable pub stepOutcome : Bool → ℕ → List ℕ → Cell
+stepOutcome true role rest = takes role rest
+stepOutcome false role rest = fails
 
 -- a stack of one symbol, at the array's end; nothing else changes
 pub record Started (before : List ℕ) (symbol r : ℕ) (after : List ℕ) : Type 0 where
@@ -45,7 +45,7 @@ pub record Pushed (before : List ℕ) (top : ℕ) (tail : List ℕ) (r : ℕ) (a
 -- the contract of one step: an equation, and what follows from it for the next step
 pub record Advanced (before : List ℕ) (top kind : ℕ) (s : Step) (after : List ℕ) : Type 0 where
   pub exact : record { answer = s; array = after } ≡ advanceBy before (step (drop top before) kind)
-  pub steps : outcome (s .fits) (s .role) (drop (s .top) after) ≡ step (drop top before) kind
+  pub steps : stepOutcome (s .fits) (s .role) (drop (s .top) after) ≡ step (drop top before) kind
   pub size : length after ≡ length before
   pub within : s .top ≤ length before
   pub room : top ≤ s .top + 10

@@ -433,10 +433,10 @@ abbrev pub symbolCount : ℕ
 symbolCount = 78
 
 -- k is one of the list
-abbrev pub among : List ℕ → ℕ → Bool
-among [] k = false
-among (x ∷ xs) k = pick (eqb k x) true (among xs k)
+abbrev pub amongSymbols : List ℕ → ℕ → Bool
+amongSymbols [] k = false
+amongSymbols (x ∷ xs) k = pick (eqb k x) true (amongSymbols xs k)
 
 -- a token of this kind can have the role
 unfoldable pub matches : ℕ → ℕ → Bool
-matches leaf kind = among (getD leafKinds leaf []) kind
+matches leaf kind = amongSymbols (getD leafKinds leaf []) kind

@@ -14,7 +14,7 @@ use Rattle.lists.specs.Lists.{tab, All}
 use Rattle.lists.proofs.TabLaw.{length-tab, getD-tab, tab-getD}
 use Rattle.lists.proofs.SearchLaw.{first-le}
 use Rattle.lists.proofs.AllLaw.{all-tab}
-use Rattle.element.specs.Types.{Value}
+use Rattle.element.specs.Types.{SlotHolds}
 use Rattle.elementwise.specs.Elementwise.{Holds}
 use Rattle.dimrules.specs.Count.{firstFailing, everywhere}
 use Rattle.dimrules.proofs.CountLaw.{Reached, reach-none, reach-next, reach-here, reach-end, holds-at}
@@ -93,7 +93,7 @@ module _ (vs : Values) where
 
   -- element k of input i is a value of the input's type
   element-fits : (inputs : List ℕ) → firstForeign vs inputs ≡ inputSlots vs → (i k : ℕ) → i < vs .inputs → k < sizeAt vs i →
-      Value (getD (vs .list) i noValue .ty .element) (getD (valueIn vs inputs i) k 0)
+      SlotHolds (getD (vs .list) i noValue .ty .element) (getD (valueIn vs inputs i) k 0)
   unfolding firstForeign slotFits
   element-fits inputs none i k h b =
       let fits = none-fails (inputSlots vs) (slotFits vs inputs) none (offsetAt vs i + k) (omega (arith, input-within i h)) in
@@ -104,7 +104,7 @@ module _ (vs : Values) where
       (i : ℕ) → i < vs .inputs → Holds (getD (vs .list) i noValue .ty .element) (sizeAt vs i) (valueIn vs inputs i)
   inputs-hold inputs full none i h =
       let v = valueIn vs inputs i in
-      let P = Value (getD (vs .list) i noValue .ty .element) in
+      let P = SlotHolds (getD (vs .list) i noValue .ty .element) in
       let long : length v ≡ sizeAt vs i = length-value vs inputs i (rw full (input-within i h)) in
       let each = all-tab P (length v) (λ k. getD v k 0) (λ k b. element-fits inputs none i k h (rw (← long) b)) in
       record { sized = long; ranged = subst (All P) (tab-getD v 0) each }

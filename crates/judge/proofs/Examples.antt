@@ -8,15 +8,15 @@ use Prim.Native.String.{String}
 use Rattle.lists.specs.Lists.{firstWhere}
 use Rattle.scan.specs.Ascii.{ascii}
 use Rattle.scan.specs.Bytes.{isLetter, isDigit, isSpace, isSigil, isSign, inRun, runFrom, runEnd, startsWith, inComment, skipFrom, skipEnd}
-use Rattle.scan.specs.TypeText.{byteEnd, wordEnd, digitsEnd, sizeNext, shapeFrom, shapeEnd, complexEnd}
+use Rattle.scan.specs.TypeText.{byteEnd, wordEnd, digitsEnd, sizeNext, shapeEndFrom, shapeEnd, complexEnd}
 use Rattle.scan.specs.Quantized.{signEnd, integerEnd, fractionEnd, scientificEnd, floatEnd, colonEnd, parameterEnd, moreEnd, parametersEnd, storageEnd, quantizedEnd}
 use Rattle.scan.specs.TensorText.{elementEnd, typeClose}
 use Rattle.text.specs.Lex.{markToken, nameEnd, nameToken, signToken, quoteToken, plainWord, tensorToken, wordToken, lexeme, tokenAt}
 use Rattle.text.specs.Names.{wordIs}
-use Rattle.types.specs.Tensors.{widthNamed, elementNamed, dimensionsFrom, countOf, allFit, sizePassed, typed, foreign, typeAfter, typeOf}
-use Rattle.types.specs.Numbers.{digitsFrom, magnitudeOf, numberOf, isAttributeNumber, patternIn}
+use Rattle.types.specs.Tensors.{widthNamed, elementNamed, dimensionsFrom, byteCount, allFit, typeSizePassed, typed, foreign, typeAfter, typeOf}
+use Rattle.types.specs.Numbers.{digitsFrom, magnitudeOf, decimalNumber, isAttributeNumber, patternIn}
 use Rattle.optable.specs.Table.{ops, attributes, choiceKinds, choices, opNames, attributeNames, choiceKindNames, choiceNames}
-use Rattle.optable.specs.Find.{same, placeIn, findOp, findAttribute, findChoiceKind, findChoice}
+use Rattle.optable.specs.Find.{same, namePlace, findOp, findAttribute, findChoiceKind, findChoice}
 use Rattle.grammar.specs.Symbols.{OpName, leafKinds, matches}
 use Rattle.grammar.specs.Grammar.{grammar}
 use Rattle.grammar.specs.Machine.{cell, step}
@@ -24,8 +24,8 @@ use Rattle.syntax.specs.Kinds.{markKind, nameKind, wordKind, quotedKind, tokenK
 use Rattle.syntax.specs.Readings.{readingsFrom, readingsOf, readings}
 use Rattle.judge.specs.declared.Refusal.{Refusal}
 use Rattle.judge.specs.declared.tally.Tally.{Tally}
-use Rattle.judge.specs.Roles.{among}
-use Rattle.judge.specs.Tally.{itemNumber, counts, elementsAt, itemsAfter, opsAfter, depthAfter, afterToken}
+use Rattle.judge.specs.Roles.{amongRoles}
+use Rattle.judge.specs.Tally.{itemNumber, counts, elementsAt, itemsAfter, opsAfter, tallyDepth, afterToken}
 use Rattle.judge.specs.Sizes as sizes
 use Rattle.judge.specs.Judge.{refuse, unknown, refusalAt, earliest, textRefusal}
 
@@ -87,7 +87,7 @@ cases =
     []
 
 examples : map (λ c. textRefusal (ascii (c .text))) cases ≡ map (λ c. c .refusal) cases
-unfolding cases textRefusal earliest refusalAt unknown sizes.sizePassed sizes.passes sizes.firstPassed sizes.typePassed sizes.manyElements sizes.manyOps sizes.manyItems sizes.longList sizes.largeNumber sizes.longName itemNumber counts elementsAt itemsAfter opsAfter depthAfter afterToken among readings readingsOf readingsFrom kindOf tokenKind markKind nameKind wordKind quotedKind wordIs grammar leafKinds matches cell step isLetter isDigit isSpace isSigil isSign inRun runFrom runEnd startsWith inComment skipFrom skipEnd byteEnd wordEnd digitsEnd sizeNext shapeFrom shapeEnd complexEnd signEnd integerEnd fractionEnd scientificEnd floatEnd colonEnd parameterEnd moreEnd parametersEnd storageEnd quantizedEnd elementEnd typeClose markToken nameEnd nameToken signToken quoteToken plainWord tensorToken wordToken lexeme tokenAt widthNamed elementNamed dimensionsFrom countOf allFit sizePassed typed foreign typeAfter typeOf digitsFrom magnitudeOf numberOf isAttributeNumber patternIn ops attributes choiceKinds choices opNames attributeNames choiceKindNames choiceNames same placeIn findOp findAttribute findChoiceKind findChoice firstWhere
+unfolding cases textRefusal earliest refusalAt unknown sizes.sizePassed sizes.passes sizes.firstPassed sizes.typePassed sizes.manyElements sizes.manyOps sizes.manyItems sizes.longList sizes.largeNumber sizes.longName itemNumber counts elementsAt itemsAfter opsAfter tallyDepth afterToken amongRoles readings readingsOf readingsFrom kindOf tokenKind markKind nameKind wordKind quotedKind wordIs grammar leafKinds matches cell step isLetter isDigit isSpace isSigil isSign inRun runFrom runEnd startsWith inComment skipFrom skipEnd byteEnd wordEnd digitsEnd sizeNext shapeEndFrom shapeEnd complexEnd signEnd integerEnd fractionEnd scientificEnd floatEnd colonEnd parameterEnd moreEnd parametersEnd storageEnd quantizedEnd elementEnd typeClose markToken nameEnd nameToken signToken quoteToken plainWord tensorToken wordToken lexeme tokenAt widthNamed elementNamed dimensionsFrom byteCount allFit typeSizePassed typed foreign typeAfter typeOf digitsFrom magnitudeOf decimalNumber isAttributeNumber patternIn ops attributes choiceKinds choices opNames attributeNames choiceKindNames choiceNames same namePlace findOp findAttribute findChoiceKind findChoice firstWhere
 examples = refl
 
 -- size 4: an op after 255 others, and after 256

@@ -8,17 +8,17 @@ use native.Mathlib.Numerals.{add-one}
 use lib.ListN.{length, getD, drop, drop-of-length-le}
 use lib.Seq.{drop-cons}
 use borrow.Author.Tests.{eq-eqb, ne-eqb}
-use Rattle.judge.specs.Roles.{among}
+use Rattle.judge.specs.Roles.{amongRoles}
 
 module _ (roles : List ℕ) (role i : ℕ) where
-  pub among-here : i < length roles → getD roles i 0 ≡ role → among (drop i roles) role ≡ true
-  unfolding among
+  pub among-here : i < length roles → getD roles i 0 ≡ role → amongRoles (drop i roles) role ≡ true
+  unfolding amongRoles
   among-here h e = rw (drop-cons roles i 0 h, eq-eqb _ _ e)
 
-  pub among-next : i < length roles → (getD roles i 0 ≡ role → ⊥) → among (drop i roles) role ≡ among (drop (i + 1) roles) role
-  unfolding among
+  pub among-next : i < length roles → (getD roles i 0 ≡ role → ⊥) → amongRoles (drop i roles) role ≡ amongRoles (drop (i + 1) roles) role
+  unfolding amongRoles
   among-next h n = rw (add-one, drop-cons roles i 0 h, ne-eqb _ _ n)
 
-  pub among-past : length roles ≤ i → among (drop i roles) role ≡ false
-  unfolding among
+  pub among-past : length roles ≤ i → amongRoles (drop i roles) role ≡ false
+  unfolding amongRoles
   among-past h = rw (drop-of-length-le roles h)

@@ -17,8 +17,8 @@ use Rattle.types.specs.declared.tensors.TypeRead.{TypeRead}
 use Rattle.types.proofs.TypeLaw.{type-sized}
 use Rattle.grammar.specs.Symbols.{OpName, BodyOpen, BodyClose}
 use Rattle.judge.specs.declared.tally.Tally.{Tally}
-use Rattle.judge.specs.Roles.{among, itemRoles}
-use Rattle.judge.specs.Tally.{atStart, itemNumber, counts, elementsAt, itemsAfter, opsAfter, depthAfter, afterToken, Within}
+use Rattle.judge.specs.Roles.{amongRoles, itemRoles}
+use Rattle.judge.specs.Tally.{atStart, itemNumber, counts, elementsAt, itemsAfter, opsAfter, tallyDepth, afterToken, TallyWithin}
 
 pick-le : (b : Bool) {x y n : ℕ} → x ≤ n → y ≤ n → pick b x y ≤ n
 pick-le true p q = p
@@ -44,11 +44,11 @@ elements-le text s role t = by-tests (counts s role) (typeOf text (t .start) .kn
 pub read-sized : (text : List ℕ) (start : ℕ) (x : TypeRead) → x ≡ typeOf text start → x .known ≡ true → x .passed ≡ 0 → Sized (x .shape)
 read-sized text start x e k p = rw e (type-sized text start (rw e at k) (rw e at p))
 
-pub within-start : (n : ℕ) → Within n atStart
+pub within-start : (n : ℕ) → TallyWithin n atStart
 within-start n = record { items = omega arith; elements = omega arith; ops = omega arith; depth = omega arith }
 
-module _ (n : ℕ) (s : Tally) (w : Within n s) where
-  pub within-more : (m : ℕ) → n ≤ m → Within m s
+module _ (n : ℕ) (s : Tally) (w : TallyWithin n s) where
+  pub within-more : (m : ℕ) → n ≤ m → TallyWithin m s
   within-more m h =
       let i = w .items in
       let e = w .elements in
@@ -56,8 +56,8 @@ module _ (n : ℕ) (s : Tally) (w : Within n s) where
       let d = w .depth in
       record { items = omega arith; elements = omega arith; ops = omega arith; depth = omega arith }
 
-  pub within-next : (text : List ℕ) (role : ℕ) (t : Token) → Within (n + 1) (afterToken text s role t)
-  unfolding afterToken itemNumber itemsAfter opsAfter depthAfter
+  pub within-next : (text : List ℕ) (role : ℕ) (t : Token) → TallyWithin (n + 1) (afterToken text s role t)
+  unfolding afterToken itemNumber itemsAfter opsAfter tallyDepth
   within-next text role t =
       let i = w .items in
       let e = w .elements in
@@ -65,7 +65,7 @@ module _ (n : ℕ) (s : Tally) (w : Within n s) where
       let d = w .depth in
       let l = elements-le text s role t in
       record {
-        items = pick-le (among itemRoles role) (pick-le (s .more) (omega arith) (omega arith)) (omega arith);
+        items = pick-le (amongRoles itemRoles role) (pick-le (s .more) (omega arith) (omega arith)) (omega arith);
         elements = omega arith;
         ops = pick-le (eqb role OpName) (omega arith) (omega arith);
         depth = pick-le (eqb role BodyOpen) (omega arith) (pick-le (eqb role BodyClose) (omega arith) (omega arith));

@@ -14,7 +14,7 @@ use Rattle.grammar.specs.Symbols.{Program, AttributeName, ChoiceKind, Choice}
 use Rattle.syntax.specs.Readings.{Reading, readingsOf}
 use Rattle.judge.specs.declared.Refusal.{Refusal}
 use Rattle.judge.specs.declared.tally.Tally.{Tally}
-use Rattle.judge.specs.Roles.{among, opRoles, typeRoles}
+use Rattle.judge.specs.Roles.{amongRoles, opRoles, typeRoles}
 use Rattle.judge.specs.Tally.{atStart, afterToken}
 use Rattle.judge.specs.Sizes.{sizePassed}
 
@@ -29,8 +29,8 @@ accepted = refuse 0 0 0
 -- A name that a list of names lacks has the list's length as its place.
 unfoldable pub unknown : List ℕ → ℕ → Token → Bool
 unknown text role t =
-    pick (among opRoles role) (eqb (findOp text (t .start) (t .end)) (length opNames))
-    (pick (among typeRoles role) (not (typeOf text (t .start) .known))
+    pick (amongRoles opRoles role) (eqb (findOp text (t .start) (t .end)) (length opNames))
+    (pick (amongRoles typeRoles role) (not (typeOf text (t .start) .known))
     (pick (eqb role AttributeName) (eqb (findAttribute text (t .start) (t .end)) (length attributeNames))
     (pick (eqb role ChoiceKind) (eqb (findChoiceKind text (t .start) (t .end)) (length choiceKindNames))
     (pick (eqb role Choice) (eqb (findChoice text (t .start) (t .end)) (length choiceNames)) false))))

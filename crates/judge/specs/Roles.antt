@@ -8,9 +8,9 @@ use Rattle.lists.specs.Lists.{pick}
 use Rattle.grammar.specs.Symbols.{InputName, InputType, OutputType, ResultName, OpName, OperandName, OperandType, ResultType, ArgumentName, ArgumentType, BodyOpName, SingleNumber, ListNumber, DenseType}
 
 -- whether a role is one of these
-unfoldable pub among : List ℕ → ℕ → Bool
-among [] role = false
-among (x ∷ xs) role = pick (eqb x role) true (among xs role)
+unfoldable pub amongRoles : List ℕ → ℕ → Bool
+amongRoles [] role = false
+amongRoles (x ∷ xs) role = pick (eqb x role) true (amongRoles xs role)
 
 -- quoted names of ops; the two returns have roles of their own
 abbrev pub opRoles : List ℕ

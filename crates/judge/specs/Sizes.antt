@@ -7,16 +7,16 @@ use lib.Dec.{eqb, ltb}
 use Rattle.lists.specs.Lists.{pick}
 use Rattle.text.specs.declared.Token.{Token}
 use Rattle.types.specs.Tensors.{typeOf}
-use Rattle.types.specs.Numbers.{numberOf, patternIn}
+use Rattle.types.specs.Numbers.{decimalNumber, patternIn}
 use Rattle.grammar.specs.Symbols.{OpName, ListNumber}
 use Rattle.judge.specs.declared.tally.Tally.{Tally}
-use Rattle.judge.specs.Roles.{among, typeRoles, numberRoles, listedRoles}
+use Rattle.judge.specs.Roles.{amongRoles, typeRoles, numberRoles, listedRoles}
 use Rattle.judge.specs.Tally.{itemNumber, elementsAt}
 
 -- 1: "Rank at most 6." 2: "Each dimension, and the product of a shape's dimensions with every 0 counted as 1, at most 4,096."
 -- The first of the two that a type passes, else 0 (types, sizePassed): of every tensor type in the text.
 unfoldable pub typePassed : List ℕ → ℕ → Token → ℕ
-typePassed text role t = pick (among typeRoles role) (typeOf text (t .start) .passed) 0
+typePassed text role t = pick (amongRoles typeRoles role) (typeOf text (t .start) .passed) 0
 
 -- 3: "Inputs and op results together at most 8,192 elements, body values not counted."
 unfoldable pub manyElements : List ℕ → Tally → ℕ → Token → Bool
@@ -28,7 +28,7 @@ manyOps s role = eqb role OpName && ltb 256 (s .ops + 1)
 
 -- 5: "At most 8 operands of an op, inputs, or results."
 unfoldable pub manyItems : Tally → ℕ → Bool
-manyItems s role = among listedRoles role && ltb 8 (itemNumber s)
+manyItems s role = amongRoles listedRoles role && ltb 8 (itemNumber s)
 
 -- 6: "An attribute list has at most 6 numbers."
 unfoldable pub longList : Tally → ℕ → Bool
@@ -36,7 +36,7 @@ longList s role = eqb role ListNumber && ltb 6 (itemNumber s)
 
 -- 7: "An attribute number outside `dense` lies in the signed 64-bit range."
 unfoldable pub largeNumber : List ℕ → ℕ → Token → Bool
-largeNumber text role t = among numberRoles role && not (patternIn (numberOf text (t .start)) .fits)
+largeNumber text role t = amongRoles numberRoles role && not (patternIn (decimalNumber text (t .start)) .fits)
 
 -- 8: "A sigil and its name have at most 32 characters."
 unfoldable pub longName : Token → Bool

@@ -11,7 +11,7 @@ use Rattle.shape.specs.Dims.{dimsOf}
 use Rattle.types.specs.Tensors.{typeOf}
 use Rattle.grammar.specs.Symbols.{InputType, OpName, ResultType, BodyOpen, BodyClose, comma}
 use Rattle.judge.specs.declared.tally.Tally.{Tally}
-use Rattle.judge.specs.Roles.{among, itemRoles}
+use Rattle.judge.specs.Roles.{amongRoles, itemRoles}
 
 -- before the first token
 abbrev pub atStart : Tally
@@ -33,23 +33,23 @@ elementsAt text s role t =
 
 -- 5 and 6: the items of the list so far; what stands inside an item, as an input's type, leaves them
 unfoldable pub itemsAfter : Tally → ℕ → ℕ
-itemsAfter s role = pick (among itemRoles role) (itemNumber s) (s .items)
+itemsAfter s role = pick (amongRoles itemRoles role) (itemNumber s) (s .items)
 
 -- 4: "its return and body ops not counted": these have roles of their own
 unfoldable pub opsAfter : Tally → ℕ → ℕ
 opsAfter s role = pick (eqb role OpName) (s .ops + 1) (s .ops)
 
 -- 3: the bodies that are open
-unfoldable pub depthAfter : Tally → ℕ → ℕ
-depthAfter s role = pick (eqb role BodyOpen) (s .depth + 1) (pick (eqb role BodyClose) (s .depth - 1) (s .depth))
+unfoldable pub tallyDepth : Tally → ℕ → ℕ
+tallyDepth s role = pick (eqb role BodyOpen) (s .depth + 1) (pick (eqb role BodyClose) (s .depth - 1) (s .depth))
 
 -- the state after a token
 unfoldable pub afterToken : List ℕ → Tally → ℕ → Token → Tally
 afterToken text s role t =
-    record { more = eqb role comma; items = itemsAfter s role; elements = s .elements + elementsAt text s role t; ops = opsAfter s role; depth = depthAfter s role }
+    record { more = eqb role comma; items = itemsAfter s role; elements = s .elements + elementsAt text s role t; ops = opsAfter s role; depth = tallyDepth s role }
 
 -- the counts after at most n tokens: no sum wraps
-pub record Within (n : ℕ) (s : Tally) : Type 0 where
+pub record TallyWithin (n : ℕ) (s : Tally) : Type 0 where
   pub items : s .items ≤ n
   pub elements : s .elements ≤ 4096 * n
   pub ops : s .ops ≤ n

@@ -8,7 +8,7 @@ ghost use Prim.Native.Nat.{_≤_};
 ghost use lib.ListN.{length};
 ghost use Rattle.grammar.specs.Symbols.{Program};
 ghost use Rattle.syntax.specs.Readings.{reading, readingsOf};
-ghost use Rattle.judge.specs.Tally.{Within, atStart};
+ghost use Rattle.judge.specs.Tally.{TallyWithin, atStart};
 ghost use Rattle.judge.specs.Judge.{unknown, refusalAt, earliest, refusalFrom, textRefusal};
 use crate::roles::is_op;
 use crate::roles::is_type;
@@ -66,7 +66,7 @@ fn is_unknown(text: &[u8], role: u8, t: Token) -> bool
 
 // Refusal 2, 3 or 4 of one token, by the state before it.
 fn refusal_at(text: &[u8], s: Tally, fits: bool, role: u8, t: Token) -> Refusal
-    requires { ⌜ Within 65536 s ⌝ }
+    requires { ⌜ TallyWithin 65536 s ⌝ }
     ensures { λ r. ⌜ r ≡ refusalAt (now (text .entry)) s (reading fits role t) ⌝ }
 {
     if !fits {

@@ -1,6 +1,6 @@
 // The eight sizes of 01: whether a token passes one.
 ghost use mathlib.Core.Path.{_≡_};
-ghost use Rattle.judge.specs.Tally.{Within};
+ghost use Rattle.judge.specs.Tally.{TallyWithin};
 ghost use Rattle.judge.specs.Sizes.{typePassed, manyElements, manyOps, manyItems, longList, largeNumber, longName, sizePassed};
 use crate::roles::is_listed;
 use crate::roles::is_number;
@@ -26,14 +26,14 @@ fn type_passed(text: &[u8], role: u8, t: Token) -> u8
 }
 
 fn many_elements(text: &[u8], s: Tally, role: u8, t: Token) -> bool
-    requires { ⌜ Within 65536 s ⌝ }
+    requires { ⌜ TallyWithin 65536 s ⌝ }
     ensures { λ r. ⌜ r ≡ manyElements (now (text .entry)) s role t ⌝ }
 {
     Limits::ELEMENTS < s.elements + elements_at(text, s, role, t)
 }
 
 fn many_ops(s: Tally, role: u8) -> bool
-    requires { ⌜ Within 65536 s ⌝ }
+    requires { ⌜ TallyWithin 65536 s ⌝ }
     ensures { λ r. ⌜ r ≡ manyOps s role ⌝ }
 {
     if role == Role::OP_NAME {
@@ -43,7 +43,7 @@ fn many_ops(s: Tally, role: u8) -> bool
 }
 
 fn many_items(s: Tally, role: u8) -> bool
-    requires { ⌜ Within 65536 s ⌝ }
+    requires { ⌜ TallyWithin 65536 s ⌝ }
     ensures { λ r. ⌜ r ≡ manyItems s role ⌝ }
 {
     if is_listed(role) {
@@ -53,7 +53,7 @@ fn many_items(s: Tally, role: u8) -> bool
 }
 
 fn is_long_list(s: Tally, role: u8) -> bool
-    requires { ⌜ Within 65536 s ⌝ }
+    requires { ⌜ TallyWithin 65536 s ⌝ }
     ensures { λ r. ⌜ r ≡ longList s role ⌝ }
 {
     if role == Role::LIST_NUMBER {
@@ -86,7 +86,7 @@ fn is_long_name(t: Token) -> bool
 
 // The first size that a token passes, else 0.
 pub fn size_passed(text: &[u8], s: Tally, role: u8, t: Token) -> usize
-    requires { ⌜ Within 65536 s ⌝ }
+    requires { ⌜ TallyWithin 65536 s ⌝ }
     ensures { λ r. ⌜ r ≡ sizePassed (now (text .entry)) s role t ⌝ }
 {
     let p = type_passed(text, role, t);

@@ -1,6 +1,6 @@
 // What is counted from token to token.
 ghost use mathlib.Core.Path.{_≡_};
-ghost use Rattle.judge.specs.Tally.{Within, itemNumber, counts, elementsAt, itemsAfter, opsAfter, depthAfter, afterToken};
+ghost use Rattle.judge.specs.Tally.{TallyWithin, itemNumber, counts, elementsAt, itemsAfter, opsAfter, tallyDepth, afterToken};
 use crate::roles::is_item;
 use grammar::symbols::Role;
 use shape::size_of;
@@ -17,7 +17,7 @@ pub struct Tally {
 }
 
 pub fn item_number(s: Tally) -> usize
-    requires { ⌜ Within 65536 s ⌝ }
+    requires { ⌜ TallyWithin 65536 s ⌝ }
     ensures { λ r. ⌜ r ≡ itemNumber s ⌝ }
 {
     if s.more {
@@ -57,7 +57,7 @@ pub fn elements_at(text: &[u8], s: Tally, role: u8, t: Token) -> usize
 }
 
 fn items_after(s: Tally, role: u8) -> usize
-    requires { ⌜ Within 65536 s ⌝ }
+    requires { ⌜ TallyWithin 65536 s ⌝ }
     ensures { λ r. ⌜ r ≡ itemsAfter s role ⌝ }
 {
     if is_item(role) {
@@ -67,7 +67,7 @@ fn items_after(s: Tally, role: u8) -> usize
 }
 
 fn ops_after(s: Tally, role: u8) -> usize
-    requires { ⌜ Within 65536 s ⌝ }
+    requires { ⌜ TallyWithin 65536 s ⌝ }
     ensures { λ r. ⌜ r ≡ opsAfter s role ⌝ }
 {
     if role == Role::OP_NAME {
@@ -77,8 +77,8 @@ fn ops_after(s: Tally, role: u8) -> usize
 }
 
 fn depth_after(s: Tally, role: u8) -> usize
-    requires { ⌜ Within 65536 s ⌝ }
-    ensures { λ r. ⌜ r ≡ depthAfter s role ⌝ }
+    requires { ⌜ TallyWithin 65536 s ⌝ }
+    ensures { λ r. ⌜ r ≡ tallyDepth s role ⌝ }
 {
     if role == Role::BODY_OPEN {
         return s.depth + 1;
@@ -94,7 +94,7 @@ fn depth_after(s: Tally, role: u8) -> usize
 
 // The state after a token.
 pub fn after_token(text: &[u8], s: Tally, role: u8, t: Token) -> Tally
-    requires { ⌜ Within 65536 s ⌝ }
+    requires { ⌜ TallyWithin 65536 s ⌝ }
     ensures { λ r. ⌜ r ≡ afterToken (now (text .entry)) s role t ⌝ }
 {
     Tally {

@@ -17,11 +17,11 @@ use typing::row_of;
 ghost use mathlib.Core.Path.{_≡_};
 ghost use Rattle.ops.specs.declared.Kind.the-variants.{Compare, Reduce};
 ghost use Rattle.optable.specs.Table.{value, comparisonDirection, directionAt};
-ghost use Rattle.attribute.specs.Attribute.{denseAt};
+ghost use Rattle.attribute.specs.Attribute.{denseTokens};
 ghost use Rattle.places.specs.Places.{bodyOpen, placeOf};
 ghost use Rattle.attributes.specs.Attributes.{nameOf, choiceOf};
 ghost use Rattle.bodies.specs.Bodies.{bodyRow};
-ghost use Rattle.nodes.specs.Nodes.{operationBy, reducerAt, kindOf};
+ghost use Rattle.nodes.specs.Nodes.{operationBy, reducerAt, opKind};
 
 // The operation of a body of an op.
 fn operation_by(r: Reducer) -> Body
@@ -51,7 +51,7 @@ fn reduce_of(text: &[u8], op: Parts) -> Kind
 
 // The class of an op.
 pub fn kind_of(text: &[u8], op: Parts) -> Kind
-    ensures { λ r. ⌜ r ≡ kindOf (now (text .entry)) op ⌝ }
+    ensures { λ r. ⌜ r ≡ opKind (now (text .entry)) op ⌝ }
 {
     let class = row_of(text, op).class;
     match class {
@@ -74,7 +74,7 @@ pub fn kind_of(text: &[u8], op: Parts) -> Kind
 
 // The byte at which a constant's dense value begins.
 pub fn literal_of(text: &[u8], op: Parts) -> usize
-    ensures { λ r. ⌜ r ≡ denseAt (now (text .entry)) (nameOf (now (text .entry)) op value) .literal ⌝ }
+    ensures { λ r. ⌜ r ≡ denseTokens (now (text .entry)) (nameOf (now (text .entry)) op value) .literal ⌝ }
 {
     dense_at(text, name_of(text, op, Attributes::VALUE)).literal
 }

@@ -37,5 +37,5 @@ noShape = record { rank = 0; dims = [] }
 abbrev pub shapesOf : List Shape → ℕ → List (List ℕ)
 shapesOf shapes count = tab count (λ j. dimsOf (getD shapes j noShape))
 
-abbrev pub inputsOf : List ℕ → List Shape → List ℕ → ℕ → List (List ℕ)
-inputsOf x shapes places count = tab count (λ j. take (size (dimsOf (getD shapes j noShape))) (drop (at places j) x))
+abbrev pub inputsIn : List ℕ → List Shape → List ℕ → ℕ → List (List ℕ)
+inputsIn x shapes places count = tab count (λ j. take (size (dimsOf (getD shapes j noShape))) (drop (at places j) x))

@@ -70,7 +70,7 @@ pub record ConcatenateHolds (dimension : ℕ) (shapes : List (List ℕ)) (to : L
   pub total : at to dimension ≡ sumAlong dimension shapes
 
 -- the inputs as the code holds them: at most 8, each within 01's sizes and within x
-pub record Inputs (x : List ℕ) (shapes : List Shape) (places : List ℕ) (count : ℕ) : Type 0 where
+pub record InputsLaid (x : List ℕ) (shapes : List Shape) (places : List ℕ) (count : ℕ) : Type 0 where
   pub few : count ≤ 8
   pub sized : (j : ℕ) → j < count → Sized (getD shapes j noShape)
   pub laid : (j : ℕ) → j < count → at places j + size (dimsOf (getD shapes j noShape)) ≤ length x

@@ -45,8 +45,8 @@ ComputesBy Pad a b n i d = (i d < 2 ^ 63) × (at b d < 2 ^ 63)
 abbrev pub Computes : Map → ℕ → (ℕ → ℕ) → ℕ → Type 0
 Computes m n i d = ComputesBy (m .kind) (m .a) (m .b) n i d
 
-abbrev pub Ready : Map → List ℕ → (ℕ → ℕ) → Type 0
-Ready m from i = (d : ℕ) → d < length from → Computes m (at from d) i d
+abbrev pub MapReady : Map → List ℕ → (ℕ → ℕ) → Type 0
+MapReady m from i = (d : ℕ) → d < length from → Computes m (at from d) i d
 
 -- what the loop asks: the shapes, the operand's stretch, and that every index of the result can be mapped
 pub record Fed (m : Map) (from to : Shape) (x : List ℕ) : Type 0 where
@@ -54,4 +54,4 @@ pub record Fed (m : Map) (from to : Shape) (x : List ℕ) : Type 0 where
   pub to-sized : Sized to
   pub count : m .count ≤ 6
   pub operand : Fills x from
-  pub ready : (i : List ℕ) → Within (dimsOf to) i → Ready m (dimsOf from) (at i)
+  pub ready : (i : List ℕ) → Within (dimsOf to) i → MapReady m (dimsOf from) (at i)

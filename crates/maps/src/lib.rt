@@ -9,10 +9,10 @@ ghost use Rattle.shape.specs.Index.{at, size, unravel, inSix};
 ghost use Rattle.shape.specs.Dims.{dimsOf, Sized, Fills};
 ghost use Rattle.shape.specs.Whole.{numberOf};
 ghost use Rattle.maps.specs.Formulas.{padStep, padCoord, broadcastCoord, reverseCoord, reshaped, broadcasted, transposed, sliced, reversed, padded, clampStart, adjustedStart, dynamicSliced, counted};
-ghost use Rattle.maps.specs.Concatenation.{concatAt, concatenated, shapesOf, inputsOf};
+ghost use Rattle.maps.specs.Concatenation.{concatAt, concatenated, shapesOf, inputsIn};
 ghost use Rattle.lists.specs.Lists.{tab};
-ghost use Rattle.maps.specs.Kinds.{coordOf, Computes, Ready, operandIndex, mappedAt, mapped, Fed};
-ghost use Rattle.maps.specs.Holds.{Stretches, ReshapeHolds, TransposeHolds, SliceHolds, PadHolds, DynamicSliceHolds, IotaHolds, ConcatenateHolds, Inputs};
+ghost use Rattle.maps.specs.Kinds.{coordOf, Computes, MapReady, operandIndex, mappedAt, mapped, Fed};
+ghost use Rattle.maps.specs.Holds.{Stretches, ReshapeHolds, TransposeHolds, SliceHolds, PadHolds, DynamicSliceHolds, IotaHolds, ConcatenateHolds, InputsLaid};
 use element::ElementType;
 use limits::Limits;
 use shape::Shape;
@@ -116,7 +116,7 @@ fn coordinate(m: Map, n: usize, index: [usize; Limits::RANK], d: usize) -> usize
 
 // The operand's index for an index of the result.
 fn operand_index(m: Map, from: Shape, index: [usize; Limits::RANK]) -> [usize; Limits::RANK]
-    requires { ⌜ (m .count ≤ 6) × (from .rank ≤ 6) × Ready m (dimsOf from) (at index) ⌝ }
+    requires { ⌜ (m .count ≤ 6) × (from .rank ≤ 6) × MapReady m (dimsOf from) (at index) ⌝ }
     ensures { λ r. ⌜ r ≡ inSix (operandIndex m (dimsOf from) (at index)) ⌝ }
 {
     let rank = from.rank;
@@ -358,8 +358,8 @@ fn concat_element(
     count: usize,
     index: [usize; Limits::RANK],
 ) -> u64
-    requires { ⌜ (dimension < 6) × Inputs (now x) shapes places count ⌝ }
-    ensures { λ r. ⌜ r ≡ concatAt dimension (shapesOf shapes count) (inputsOf (now (x .entry)) shapes places count) index ⌝ }
+    requires { ⌜ (dimension < 6) × InputsLaid (now x) shapes places count ⌝ }
+    ensures { λ r. ⌜ r ≡ concatAt dimension (shapesOf shapes count) (inputsIn (now (x .entry)) shapes places count) index ⌝ }
 {
     let mut t = index[dimension];
     for j in 0..count {
@@ -387,8 +387,8 @@ fn concat_at(
     to: Shape,
     k: usize,
 ) -> u64
-    requires { ⌜ Sized to × Inputs (now x) shapes places count × ConcatenateHolds dimension (shapesOf shapes count) (dimsOf to) × (k < size (dimsOf to)) ⌝ }
-    ensures { λ r. ⌜ r ≡ concatAt dimension (shapesOf shapes count) (inputsOf (now (x .entry)) shapes places count) (unravel (dimsOf to) k) ⌝ }
+    requires { ⌜ Sized to × InputsLaid (now x) shapes places count × ConcatenateHolds dimension (shapesOf shapes count) (dimsOf to) × (k < size (dimsOf to)) ⌝ }
+    ensures { λ r. ⌜ r ≡ concatAt dimension (shapesOf shapes count) (inputsIn (now (x .entry)) shapes places count) (unravel (dimsOf to) k) ⌝ }
 {
     let i = shape::index_at(to, k);
     concat_element(x, dimension, shapes, places, count, i)
@@ -404,8 +404,8 @@ pub fn concatenate(
     to: Shape,
     out: &mut [u64],
 )
-    requires { ⌜ Sized to × Fills (now out) to × Inputs (now x) shapes places count × ConcatenateHolds dimension (shapesOf shapes count) (dimsOf to) ⌝ }
-    ensures { λ _. ⌜ now (out .exit) ≡ concatenated dimension (shapesOf shapes count) (inputsOf (now (x .entry)) shapes places count) (dimsOf to) ⌝ }
+    requires { ⌜ Sized to × Fills (now out) to × InputsLaid (now x) shapes places count × ConcatenateHolds dimension (shapesOf shapes count) (dimsOf to) ⌝ }
+    ensures { λ _. ⌜ now (out .exit) ≡ concatenated dimension (shapesOf shapes count) (inputsIn (now (x .entry)) shapes places count) (dimsOf to) ⌝ }
 {
     let n = out.len();
     for k in 0..n {

@@ -35,7 +35,7 @@ use Rattle.dimrules.specs.declared.TensorType.{TensorType}
 use Rattle.dimrules.specs.declared.Numbers.{Numbers}
 use Rattle.opcheck.specs.Judged.{brokenBy}
 use Rattle.opcheck.specs.declared.Operation.{Operation}
-use Rattle.facts.specs.Facts.{ruleOf, nodeFor}
+use Rattle.facts.specs.Facts.{ruleOfKind, nodeFor}
 
 -- ---- what a row says
 
@@ -46,7 +46,7 @@ pub record Typed : Type 0 where
   pub elements : Tensor
 
 -- a, b and c are the op's attribute lists in the order of its row of the op table
-pub record Row : Type 0 where
+pub record MarkedRow : Type 0 where
   pub kind : Kind
   pub operands : List Typed
   pub a : List ℕ
@@ -55,7 +55,7 @@ pub record Row : Type 0 where
   pub result : Typed
 
 -- what comes of a row: whether its tensors are of their types; the verifier's first broken constraint, 0 for none (refusal 8); what the evaluation gives
-pub record Outcome : Type 0 where
+pub record RowOutcome : Type 0 where
   pub typed : Bool
   pub broken : ℕ
   pub out : Out Tensor ℕ
@@ -68,23 +68,23 @@ abbrev pub allTyped : List Typed → Bool
 allTyped [] = true
 allTyped (x ∷ xs) = isTyped x && allTyped xs
 
-abbrev pub typeOf : Typed → TensorType
-typeOf x = record { element = x .element; shape = shapeFrom (x .dims) }
+abbrev pub rowType : Typed → TensorType
+rowType x = record { element = x .element; shape = shapeFrom (x .dims) }
 
-abbrev pub numbersOf : List ℕ → Numbers
-numbersOf l = record { count = length l; list = inSix l }
+abbrev pub rowNumbers : List ℕ → Numbers
+rowNumbers l = record { count = length l; list = inSix l }
 
 -- the op as it is read; choice and value are compare's and constant's, left and right the types of a body's arguments, of rank 0
-abbrev pub operationOf : Row → Operation
-operationOf r =
+abbrev pub rowOperation : MarkedRow → Operation
+rowOperation r =
     let argument : TensorType = record { element = r .result .element; shape = shapeFrom [] } in
     record {
       arity = length (r .operands);
-      types = map typeOf (r .operands);
-      result = typeOf (r .result);
-      a = numbersOf (r .a);
-      b = numbersOf (r .b);
-      c = numbersOf (r .c);
+      types = map rowType (r .operands);
+      result = rowType (r .result);
+      a = rowNumbers (r .a);
+      b = rowNumbers (r .b);
+      c = rowNumbers (r .c);
       choice = noChoice;
       value = noType;
       left = argument;
@@ -92,19 +92,19 @@ operationOf r =
     }
 
 -- the op of a row on its operands, as the evaluation runs an op
-abbrev pub rowGives : Row → Out Tensor ℕ
-rowGives r = byFold hlo (wayOf (nodeFor (r .kind) (operationOf r) [] []) (r .kind) (map (λ x. x .elements) (r .operands)))
+abbrev pub rowGives : MarkedRow → Out Tensor ℕ
+rowGives r = byFold hlo (wayOf (nodeFor (r .kind) (rowOperation r) [] []) (r .kind) (map (λ x. x .elements) (r .operands)))
 
-abbrev pub outcomeOf : Row → Outcome
+abbrev pub outcomeOf : MarkedRow → RowOutcome
 outcomeOf r =
     record {
       typed = allTyped (r .result ∷ r .operands);
-      broken = brokenBy (ruleOf (r .kind)) (operationOf r);
+      broken = brokenBy (ruleOfKind (r .kind)) (rowOperation r);
       out = rowGives r;
     }
 
 -- what the paper says of a row
-abbrev pub saidOf : Row → Outcome
+abbrev pub saidOf : MarkedRow → RowOutcome
 saidOf r = record { typed = true; broken = 0; out = gives (r .result .elements) }
 
 -- ---- how rows are written; where the paper gives no element type, i32
@@ -125,11 +125,11 @@ abbrev list : ElementType → Tensor → Typed
 list e xs = tensor e (length xs ∷ []) xs
 
 -- an op without attributes
-abbrev row : Kind → List Typed → Typed → Row
-row kind operands result = record { kind = kind; operands = operands; a = []; b = []; c = []; result = result }
+abbrev markedRow : Kind → List Typed → Typed → MarkedRow
+markedRow kind operands result = record { kind = kind; operands = operands; a = []; b = []; c = []; result = result }
 
 -- "slice: .. C5 result size is the ceiling of (limit - start) / stride"
-abbrev slice : Tensor → ℕ → ℕ → ℕ → Tensor → Row
+abbrev slice : Tensor → ℕ → ℕ → ℕ → Tensor → MarkedRow
 slice x start limit stride is =
     record {
       kind = Moved Slice;
@@ -144,7 +144,7 @@ slice x start limit stride is =
 abbrev padSize : ℕ → ℤ → ℤ → ℤ → ℕ
 padSize n low interior high = upOf (pos n +ℤ low +ℤ pos (n - 1) *ℤ interior +ℤ high)
 
-abbrev pad : Tensor → ℕ → ℤ → ℤ → ℤ → Tensor → Row
+abbrev pad : Tensor → ℕ → ℤ → ℤ → ℤ → Tensor → MarkedRow
 pad x value low interior high is =
     record {
       kind = Pad;
@@ -156,7 +156,7 @@ pad x value low interior high is =
     }
 
 -- the result has the slice size; ui16 as in the program below the table
-abbrev dynamicSlice : ℕ → Tensor → Typed → Tensor → Row
+abbrev dynamicSlice : ℕ → Tensor → Typed → Tensor → MarkedRow
 dynamicSlice sliceSize x start is =
     record {
       kind = DynamicSlice;
@@ -168,7 +168,7 @@ dynamicSlice sliceSize x start is =
     }
 
 -- the result has the dimensions that are not reduced
-abbrev reduce : Body → ℕ → List ℕ → Tensor → ℕ → Tensor → Row
+abbrev reduce : Body → ℕ → List ℕ → Tensor → ℕ → Tensor → MarkedRow
 reduce body dimension dims x start is =
     record {
       kind = Reduce body;
@@ -181,29 +181,29 @@ reduce body dimension dims x start is =
 
 -- ---- the rows marked P, in 01's order
 
-abbrev pub markedRows : List Row
+abbrev pub markedRows : List MarkedRow
 markedRows =
     -- "P divide i32 [17, -17, 17, -17] by [3, 3, -3, -3]: [5, -5, -5, 5]; P remainder: [2, -2, 2, -2] (003)."
-    row (Quotient Divide) (list I32 (17 ∷ minus I32 17 ∷ 17 ∷ minus I32 17 ∷ []) ∷ list I32 (3 ∷ 3 ∷ minus I32 3 ∷ minus I32 3 ∷ []) ∷ []) (list I32 (5 ∷ minus I32 5 ∷ minus I32 5 ∷ 5 ∷ []))
-    ∷ row (Quotient Remainder) (list I32 (17 ∷ minus I32 17 ∷ 17 ∷ minus I32 17 ∷ []) ∷ list I32 (3 ∷ 3 ∷ minus I32 3 ∷ minus I32 3 ∷ []) ∷ []) (list I32 (2 ∷ minus I32 2 ∷ 2 ∷ minus I32 2 ∷ []))
+    markedRow (Quotient Divide) (list I32 (17 ∷ minus I32 17 ∷ 17 ∷ minus I32 17 ∷ []) ∷ list I32 (3 ∷ 3 ∷ minus I32 3 ∷ minus I32 3 ∷ []) ∷ []) (list I32 (5 ∷ minus I32 5 ∷ minus I32 5 ∷ 5 ∷ []))
+    ∷ markedRow (Quotient Remainder) (list I32 (17 ∷ minus I32 17 ∷ 17 ∷ minus I32 17 ∷ []) ∷ list I32 (3 ∷ 3 ∷ minus I32 3 ∷ minus I32 3 ∷ []) ∷ []) (list I32 (2 ∷ minus I32 2 ∷ 2 ∷ minus I32 2 ∷ []))
     -- "P i8 -128 / -1: -128, remainder 0. P abs i8 -128: 127."
-    ∷ row (Quotient Divide) (single I8 (minus I8 128) ∷ single I8 (minus I8 1) ∷ []) (single I8 (minus I8 128))
-    ∷ row (Quotient Remainder) (single I8 (minus I8 128) ∷ single I8 (minus I8 1) ∷ []) (single I8 0)
-    ∷ row (Elementwise Abs) (single I8 (minus I8 128) ∷ []) (single I8 127)
+    ∷ markedRow (Quotient Divide) (single I8 (minus I8 128) ∷ single I8 (minus I8 1) ∷ []) (single I8 (minus I8 128))
+    ∷ markedRow (Quotient Remainder) (single I8 (minus I8 128) ∷ single I8 (minus I8 1) ∷ []) (single I8 0)
+    ∷ markedRow (Elementwise Abs) (single I8 (minus I8 128) ∷ []) (single I8 127)
     -- "P i8 127 + 1 = -128; ui8 255 + 1 = 0; i1 true + true = true."
-    ∷ row (Pairwise Plus) (single I8 127 ∷ single I8 1 ∷ []) (single I8 (minus I8 128))
-    ∷ row (Pairwise Plus) (single U8 255 ∷ single U8 1 ∷ []) (single U8 0)
-    ∷ row (Pairwise Plus) (single I1 1 ∷ single I1 1 ∷ []) (single I1 1)
+    ∷ markedRow (Pairwise Plus) (single I8 127 ∷ single I8 1 ∷ []) (single I8 (minus I8 128))
+    ∷ markedRow (Pairwise Plus) (single U8 255 ∷ single U8 1 ∷ []) (single U8 0)
+    ∷ markedRow (Pairwise Plus) (single I1 1 ∷ single I1 1 ∷ []) (single I1 1)
     -- "P and [[1, 2], [3, 4]], [[5, 6], [7, 8]]: [[1, 2], [3, 0]] (003)."
-    ∷ row (Pairwise And) (tensor I32 (2 ∷ 2 ∷ []) (1 ∷ 2 ∷ 3 ∷ 4 ∷ []) ∷ tensor I32 (2 ∷ 2 ∷ []) (5 ∷ 6 ∷ 7 ∷ 8 ∷ []) ∷ []) (tensor I32 (2 ∷ 2 ∷ []) (1 ∷ 2 ∷ 3 ∷ 0 ∷ []))
+    ∷ markedRow (Pairwise And) (tensor I32 (2 ∷ 2 ∷ []) (1 ∷ 2 ∷ 3 ∷ 4 ∷ []) ∷ tensor I32 (2 ∷ 2 ∷ []) (5 ∷ 6 ∷ 7 ∷ 8 ∷ []) ∷ []) (tensor I32 (2 ∷ 2 ∷ []) (1 ∷ 2 ∷ 3 ∷ 0 ∷ []))
     -- "P convert i32 300 to ui8: 44; ui8 200 to i8: -56."
-    ∷ row Convert (single I32 300 ∷ []) (single U8 44)
-    ∷ row Convert (single U8 200 ∷ []) (single I8 (minus I8 56))
+    ∷ markedRow Convert (single I32 300 ∷ []) (single U8 44)
+    ∷ markedRow Convert (single U8 200 ∷ []) (single I8 (minus I8 56))
     -- "P i8 -128 arithmetic right by 8: -1; logical by 7: 1."
-    ∷ row (Pairwise ShiftRightArithmetic) (single I8 (minus I8 128) ∷ single I8 8 ∷ []) (single I8 (minus I8 1))
-    ∷ row (Pairwise ShiftRightLogical) (single I8 (minus I8 128) ∷ single I8 7 ∷ []) (single I8 1)
+    ∷ markedRow (Pairwise ShiftRightArithmetic) (single I8 (minus I8 128) ∷ single I8 8 ∷ []) (single I8 (minus I8 1))
+    ∷ markedRow (Pairwise ShiftRightLogical) (single I8 (minus I8 128) ∷ single I8 7 ∷ []) (single I8 1)
     -- "P clamp min 5, x 4, max 3: 3."
-    ∷ row Clamp (single I32 5 ∷ single I32 4 ∷ single I32 3 ∷ []) (single I32 3)
+    ∷ markedRow Clamp (single I32 5 ∷ single I32 4 ∷ single I32 3 ∷ []) (single I32 3)
     -- "P slice of 5, start 1, limit 5, stride 2: elements 1 and 3."
     ∷ slice (0 ∷ 1 ∷ 2 ∷ 3 ∷ 4 ∷ []) 1 5 2 (1 ∷ 3 ∷ [])
     -- "P pad [1, 2, 3] with 0, low -1, interior 1, high 2: [0, 2, 0, 3, 0, 0]."

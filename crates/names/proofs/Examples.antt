@@ -10,7 +10,7 @@ use Rattle.text.specs.Names.{wordIs, sameBytes, nameBytes, sameName}
 use Rattle.syntax.specs.Readings.{readingsFrom, readingsOf}
 use Rattle.scan.specs.Ascii.{ascii}
 use Rattle.scan.specs.Bytes.{isLetter, isDigit, isSpace, isSigil, isSign, inRun, runFrom, runEnd, startsWith, inComment, skipFrom, skipEnd}
-use Rattle.scan.specs.TypeText.{byteEnd, wordEnd, digitsEnd, sizeNext, shapeFrom, shapeEnd, complexEnd}
+use Rattle.scan.specs.TypeText.{byteEnd, wordEnd, digitsEnd, sizeNext, shapeEndFrom, shapeEnd, complexEnd}
 use Rattle.scan.specs.Quantized.{signEnd, integerEnd, fractionEnd, scientificEnd, floatEnd, colonEnd, parameterEnd, moreEnd, parametersEnd, storageEnd, quantizedEnd}
 use Rattle.scan.specs.TensorText.{elementEnd, typeClose}
 use Rattle.text.specs.Lex.{markToken, nameEnd, nameToken, signToken, quoteToken, plainWord, tensorToken, wordToken, lexeme, tokenAt}
@@ -70,5 +70,5 @@ cases =
     []
 
 examples : T (right cases)
-unfolding cases checkedFault definesName isVisible useName defineName settled forgotten onToken tokenChecked namesRead opNamesRead opNamesFault namesDefined inputNamesFault ownPlaces bodyReadings namesUsed operandsBodyResult depthAfter nameAt sameAt begins ends sameBytes nameBytes sameName readingsOf readingsFrom kindOf tokenKind markKind nameKind wordKind quotedKind wordIs grammar leafKinds matches cell step isLetter isDigit isSpace isSigil isSign inRun runFrom runEnd startsWith inComment skipFrom skipEnd byteEnd wordEnd digitsEnd sizeNext shapeFrom shapeEnd complexEnd signEnd integerEnd fractionEnd scientificEnd floatEnd colonEnd parameterEnd moreEnd parametersEnd storageEnd quantizedEnd elementEnd typeClose markToken nameEnd nameToken signToken quoteToken plainWord tensorToken wordToken lexeme tokenAt
+unfolding cases checkedFault definesName isVisible useName defineName settled forgotten onToken tokenChecked namesRead opNamesRead opNamesFault namesDefined inputNamesFault ownPlaces bodyReadings namesUsed operandsBodyResult depthAfter nameAt sameAt begins ends sameBytes nameBytes sameName readingsOf readingsFrom kindOf tokenKind markKind nameKind wordKind quotedKind wordIs grammar leafKinds matches cell step isLetter isDigit isSpace isSigil isSign inRun runFrom runEnd startsWith inComment skipFrom skipEnd byteEnd wordEnd digitsEnd sizeNext shapeEndFrom shapeEnd complexEnd signEnd integerEnd fractionEnd scientificEnd floatEnd colonEnd parameterEnd moreEnd parametersEnd storageEnd quantizedEnd elementEnd typeClose markToken nameEnd nameToken signToken quoteToken plainWord tensorToken wordToken lexeme tokenAt
 examples = tt

@@ -11,7 +11,7 @@ use lib.Dec.{T, ltb, eqb, eqb→eq}
 use borrow.Author.Tests.{eqb-true, ne-eqb}
 use Rattle.lists.specs.Lists.{pick}
 use Rattle.scan.specs.Bytes.{among}
-use Rattle.grammar.specs.Symbols.{InputName, ResultName, OperandName, BodyOpen, ArgumentName, BodyClose, OpName, FuncReturn, BodyOpName, BodyReturn, among as member}
+use Rattle.grammar.specs.Symbols.{InputName, ResultName, OperandName, BodyOpen, ArgumentName, BodyClose, OpName, FuncReturn, BodyOpName, BodyReturn, amongSymbols as member}
 use Rattle.grammar.proofs.TableTest.{both-left, both-right, or}
 use Rattle.grammar.proofs.Within.{allPass, member-passes}
 use Rattle.syntax.specs.Readings.{Reading}

@@ -8,7 +8,7 @@ use native.Mathlib.Omega.{arith}
 use lib.Dec.{T, ltb, eqb, eqb→eq}
 use borrow.Author.Tests.{ne-eqb}
 use Rattle.lists.specs.Lists.{pick}
-use Rattle.grammar.specs.Symbols.{BodyOpen, BodyClose, among as member}
+use Rattle.grammar.specs.Symbols.{BodyOpen, BodyClose, amongSymbols as member}
 use Rattle.grammar.proofs.TableTest.{both-left, both-right, or}
 use Rattle.grammar.proofs.Within.{allPass, member-passes}
 use Rattle.syntax.specs.Readings.{Reading}

@@ -34,7 +34,7 @@ use Rattle.grammar.specs.Symbols.{OpName}
 use Rattle.reading_laws.proofs.OpsLaw.{few-bytes, read-program}
 use Rattle.names.proofs.SameLaw.{names-same}
 use Rattle.names.proofs.FreshLaw.{hidden-known, results-fresh}
-use Rattle.typing.specs.Typing.{rowOf, resultsAre}
+use Rattle.typing.specs.Typing.{rowNamedIn, resultsAre}
 use Rattle.opwise.specs.Opwise.{byName, opsFrom}
 use Rattle.verify.specs.Verify.{programRefusal, verdict}
 use Rattle.nodes.proofs.TypedLaw.{typed-parts}
@@ -97,7 +97,7 @@ module _ (text : List ℕ) where
     unfolding resultsAre
     one-name k l =
         let op = opAt text (getD (p .ops) k 0) in
-        let t = typed-parts text op (rowOf text op) (vs .list) (vs .inputs + k) (accepted-stands text e k l .typed) in
+        let t = typed-parts text op (rowNamedIn text op) (vs .list) (vs .inputs + k) (accepted-stands text e k l .typed) in
         eqb-true (countOf op resultName) 1 (both-true (eqb (countOf op resultName) 1) (eqb (countOf op resultType) 1) (t .results) .0)
 
     -- the result of op k has none of the names before it

@@ -10,7 +10,7 @@ use Rattle.run.specs.Ways.{OrderFree}
 use Rattle.elementwise.specs.Elementwise.{Tensor}
 use Rattle.ops.specs.Ops.{hlo}
 use Rattle.ops.specs.declared.Kind.the-variants.{Constant}
-use Rattle.ops.specs.Typed.{HoldAll, Granted, Accepted, StartsAtIdentity}
+use Rattle.ops.specs.Typed.{HoldAll, NodeGranted, Accepted, StartsAtIdentity}
 use Rattle.ops.proofs.ProgramLaw.{hlo-order-free}
 use Rattle.judge.specs.Judge.{textRefusal}
 use Rattle.optable.specs.Table.{value}
@@ -27,12 +27,12 @@ use Rattle.known.specs.Known.{namesFault}
 use Rattle.operands.specs.Operands.{valueNamed, arityOf}
 use Rattle.attributes.specs.Attributes.{stands, denseFits, nameOf}
 use Rattle.outputs.specs.Outputs.{typedReturn}
-use Rattle.typing.specs.Typing.{rowOf, operationOf}
+use Rattle.typing.specs.Typing.{rowNamedIn, operationOf}
 use Rattle.facts.specs.Facts.{AcceptedAs, nodeType}
 use Rattle.reading_laws.proofs.OpsLaw.{read-program}
 use Rattle.reading_laws.proofs.ElementsLaw.{few-elements}
 use Rattle.verify.specs.Verify.{programRefusal, verdict}
-use Rattle.nodes.specs.Nodes.{kindOf, nodeAt, nodesOf, typesOf}
+use Rattle.nodes.specs.Nodes.{opKind, nodeAt, nodesOf, inputTypesOf}
 use Rattle.nodes.proofs.TypedLaw.{typed-accepted, typed-constant}
 use Rattle.nodes.proofs.NodesLaw.{OpStands, defined-type, return-defined, operand-before, operand-type, result-is, granted-at, nodes-accepted}
 use Rattle.nodes.proofs.VerdictLaw.{both-zero, ops-and-return, each-passed, op-stands, one-result, return-stands, ops-stand}
@@ -80,13 +80,13 @@ module _ (text : List ℕ) where
     pub accepted-return : typedReturn text (opOf (opsOf p)) (p .header) (vs .list) (vs .inputs + opsOf p) ≡ true
     accepted-return = return-stands text p vs text-counted program-passes
 
-    pub op-accepted : (k : ℕ) → k < opsOf p → AcceptedAs (kindOf text (opOf k)) (operationOf text (opOf k) (rowOf text (opOf k)))
+    pub op-accepted : (k : ℕ) → k < opsOf p → AcceptedAs (opKind text (opOf k)) (operationOf text (opOf k) (rowNamedIn text (opOf k)))
     op-accepted k l = let h = accepted-stands k l in typed-accepted text (opOf k) (vs .list) (vs .inputs + k) (h .typed) (h .held)
 
     -- operand j of op k: the value that it names, by its number, is an input or an earlier op's result, and has the type that is written
     pub operands-defined : (k : ℕ) → k < opsOf p → (j : ℕ) → j < arityOf (opOf k)
         → (valueNamed text (vs .list) (vs .inputs + k) (placeOf (opOf k) operandName j) < vs .inputs + k)
-        × (nodeType (typeAt (operationOf text (opOf k) (rowOf text (opOf k)) .types) j)
+        × (nodeType (typeAt (operationOf text (opOf k) (rowNamedIn text (opOf k)) .types) j)
         ≡ nodeType (getD (vs .list) (valueNamed text (vs .list) (vs .inputs + k) (placeOf (opOf k) operandName j)) noValue .ty))
     operands-defined k l j m = (operand-before text p (ops-stand text p vs text-counted program-passes) k l j m, operand-type text p (ops-stand text p vs text-counted program-passes) k l j m)
 
@@ -103,18 +103,18 @@ module _ (text : List ℕ) where
     pub node-result : (k : ℕ) → k < opsOf p → nodeAt text p vs k .result ≡ nodeType (getD (vs .list) (vs .inputs + k) noValue .ty)
     node-result = result-is text p
 
-    pub node-accepted : (k : ℕ) → k < opsOf p → Granted (nodeAt text p vs k) (nodeAt text p vs k .kind)
+    pub node-accepted : (k : ℕ) → k < opsOf p → NodeGranted (nodeAt text p vs k) (nodeAt text p vs k .kind)
     node-accepted = granted-at text p (ops-stand text p vs text-counted program-passes)
 
     -- a constant has its dense value, which is one of its type
-    pub constant-accepted : (k : ℕ) → k < opsOf p → kindOf text (opOf k) ≡ Constant
+    pub constant-accepted : (k : ℕ) → k < opsOf p → opKind text (opOf k) ≡ Constant
         → (stands text (opOf k) value ≡ true) × (denseFits text (nameOf text (opOf k) value) ≡ true)
     constant-accepted k l = typed-constant text (opOf k) (vs .list) (vs .inputs + k) (accepted-stands k l .typed)
 
-    pub accepted-program : Accepted (typesOf text) (nodesOf text)
-    unfolding typesOf nodesOf
+    pub accepted-program : Accepted (inputTypesOf text) (nodesOf text)
+    unfolding inputTypesOf nodesOf
     accepted-program = nodes-accepted text p (ops-stand text p vs text-counted program-passes)
 
     -- demand 3 of 01 for the text's program
-    pub text-order-free : StartsAtIdentity (nodesOf text) → (inputs : List Tensor) → HoldAll (typesOf text) inputs → (b : ℕ) → OrderFree hlo (nodesOf text) inputs b
-    text-order-free = hlo-order-free (typesOf text) (nodesOf text) accepted-program
+    pub text-order-free : StartsAtIdentity (nodesOf text) → (inputs : List Tensor) → HoldAll (inputTypesOf text) inputs → (b : ℕ) → OrderFree hlo (nodesOf text) inputs b
+    text-order-free = hlo-order-free (inputTypesOf text) (nodesOf text) accepted-program

@@ -11,7 +11,7 @@ use Rattle.scalar.specs.declared.Body.the-variants.{Add as AddBody, Multiply as
 use Rattle.ops.specs.declared.Move.the-variants.{Reshape, BroadcastInDim, Transpose, Slice, Reverse}
 use Rattle.ops.specs.declared.Kind.the-variants.{Constant, Iota, Elementwise, Pairwise, Quotient, Compare, Convert, Select, Clamp, Moved, Pad, Concatenate, DynamicSlice, Reduce}
 use Rattle.optable.specs.Table.{ops, opNames, opNamed, rowAt, choices, choiceNames, choiceNamed, saidAt, directionAt}
-use Rattle.optable.specs.Find.{same, placeIn}
+use Rattle.optable.specs.Find.{same, namePlace}
 use Rattle.facts.specs.Facts.{kindBy}
 use Rattle.nodes.specs.Nodes.{reducerAt}
 
@@ -26,12 +26,12 @@ classes :
     × (map (λ n. kindBy Ge OrBody (rowAt (opNamed n) .class))
     ("clamp" ∷ "compare" ∷ "concatenate" ∷ "constant" ∷ "convert" ∷ "divide" ∷ "dynamic_slice" ∷ "iota" ∷ "pad" ∷ "reduce" ∷ "remainder" ∷ "select" ∷ [])
     ≡ Clamp ∷ Compare Ge ∷ Concatenate ∷ Constant ∷ Convert ∷ Quotient Divide ∷ DynamicSlice ∷ Iota ∷ Pad ∷ Reduce OrBody ∷ Quotient Remainder ∷ Select ∷ [])
-unfolding ops opNames rowAt firstWhere same placeIn
+unfolding ops opNames rowAt firstWhere same namePlace
 classes = (refl, refl, refl, refl)
 
 words :
     (map (λ w. directionAt (choiceNamed w)) ("EQ" ∷ "NE" ∷ "GE" ∷ "GT" ∷ "LE" ∷ "LT" ∷ []) ≡ Eq ∷ Ne ∷ Ge ∷ Gt ∷ Le ∷ Lt ∷ [])
     × (map (λ n. reducerAt (opNamed n)) ("add" ∷ "multiply" ∷ "maximum" ∷ "minimum" ∷ "and" ∷ "or" ∷ "xor" ∷ [])
     ≡ AddBody ∷ MultiplyBody ∷ MaximumBody ∷ MinimumBody ∷ AndBody ∷ OrBody ∷ XorBody ∷ [])
-unfolding directionAt saidAt reducerAt rowAt ops opNames choices choiceNames firstWhere same placeIn
+unfolding directionAt saidAt reducerAt rowAt ops opNames choices choiceNames firstWhere same namePlace
 words = (refl, refl)

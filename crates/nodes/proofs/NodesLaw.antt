@@ -14,8 +14,8 @@ use borrow.Author.Tests.{le-ltb}
 use Rattle.lists.specs.Lists.{tab, All}
 use Rattle.lists.proofs.TabLaw.{length-tab, getD-tab, tab-cong, map-tab}
 use Rattle.lists.proofs.AllLaw.{all-tab}
-use Rattle.ops.specs.Ops.{Node, TensorType as NodeType, noType}
-use Rattle.ops.specs.Typed.{typeAt, Accepted, Granted as NodeGranted}
+use Rattle.ops.specs.Ops.{Node, TensorType as NodeType, noTensorType}
+use Rattle.ops.specs.Typed.{valueTypeAt, Accepted, NodeGranted}
 use Rattle.opcheck.specs.Judged.{brokenBy}
 use Rattle.dimrules.specs.Types.{typeAt as operandAt}
 use Rattle.program.specs.declared.Parts.{Parts}
@@ -27,7 +27,7 @@ use Rattle.values.specs.declared.Values.{Values}
 use Rattle.values.specs.Values.{noValue, resultValue, inputsOf, opsOf, valueAt, valuesIn}
 use Rattle.values.proofs.ValuesLaw.{value-stands, value-sized, value-six}
 use Rattle.operands.specs.Operands.{valueNamed, arityOf, operandsTyped}
-use Rattle.typing.specs.Typing.{rowOf, operationOf, typedOp}
+use Rattle.typing.specs.Typing.{rowNamedIn, operationOf, typedOp}
 use Rattle.facts.specs.Facts.{nodeType}
 use Rattle.nodes.specs.Nodes.{operandsOf, nodeAt, inputTypes, nodesIn}
 use Rattle.nodes.proofs.ReadLaw.{part-read}
@@ -50,8 +50,8 @@ tab-place (suc n) f (suc k) a e = let h = tab-place n (λ i. f (suc i)) k a e in
 
 -- an op that refusals 7 and 8 leave, after n values
 pub record OpStands (text : List ℕ) (op : Parts) (values : List Value) (n : ℕ) : Type 0 where
-  pub typed : typedOp text op (rowOf text op) values n ≡ true
-  pub held : brokenBy (rowOf text op .rule) (operationOf text op (rowOf text op)) ≡ 0
+  pub typed : typedOp text op (rowNamedIn text op) values n ≡ true
+  pub held : brokenBy (rowNamedIn text op .rule) (operationOf text op (rowNamedIn text op)) ≡ 0
 
 -- every op of a program, and the return after them
 pub record OpsStand (text : List ℕ) (p : Places) (vs : Values) : Type 0 where
@@ -77,24 +77,24 @@ module _ (text : List ℕ) (p : Places) where
       rw (value-stands text p i (omega arith), le-ltb i (inputsOf p) (omega arith), z)
 
   -- the inputs come first, then each op's result
-  pub value-type : (i : ℕ) → i < vs .inputs + opsOf p → typeAt (inputTypes vs) (nodesIn text p vs) i ≡ valueType i
+  pub value-type : (i : ℕ) → i < vs .inputs + opsOf p → valueTypeAt (inputTypes vs) (nodesIn text p vs) i ≡ valueType i
   unfolding inputTypes nodesIn
   value-type i l = by-place (decLt i (vs .inputs))
     where
       results : List NodeType
       results = map (λ o. o .result) (tab (opsOf p) (nodeAt text p vs))
 
-      by-place : Dec (i < vs .inputs) → getD (tab (vs .inputs) valueType ++ results) i noType ≡ valueType i
+      by-place : Dec (i < vs .inputs) → getD (tab (vs .inputs) valueType ++ results) i noTensorType ≡ valueType i
       by-place (yes b) =
-          List·getD-append (tab (vs .inputs) valueType) results noType i (rw (length-tab (vs .inputs) valueType) b) ∙ getD-tab (vs .inputs) valueType i noType b
+          List·getD-append (tab (vs .inputs) valueType) results noTensorType i (rw (length-tab (vs .inputs) valueType) b) ∙ getD-tab (vs .inputs) valueType i noTensorType b
       by-place (no b) =
           let k = i - vs .inputs in
           let e : vs .inputs + k ≡ i = omega arith in
           let q : k < opsOf p = omega arith in
-          ap (λ (j : ℕ). getD (tab (vs .inputs) valueType ++ results) j noType) (sym (rw (length-tab (vs .inputs) valueType) e))
-          ∙ getD-append-add (tab (vs .inputs) valueType) results k noType
-          ∙ ap (λ (l : List NodeType). getD l k noType) (map-tab (λ (o : Node). o .result) (opsOf p) (nodeAt text p vs))
-          ∙ getD-tab (opsOf p) (λ k. nodeAt text p vs k .result) k noType q ∙ result-is k q ∙ ap valueType e
+          ap (λ (j : ℕ). getD (tab (vs .inputs) valueType ++ results) j noTensorType) (sym (rw (length-tab (vs .inputs) valueType) e))
+          ∙ getD-append-add (tab (vs .inputs) valueType) results k noTensorType
+          ∙ ap (λ (l : List NodeType). getD l k noTensorType) (map-tab (λ (o : Node). o .result) (opsOf p) (nodeAt text p vs))
+          ∙ getD-tab (opsOf p) (λ k. nodeAt text p vs k .result) k noTensorType q ∙ result-is k q ∙ ap valueType e
 
   -- a name that is defined is written with the type of its value
   pub defined-type : (op : Parts) (n j : ℕ) → Defined text op (vs .list) n j
@@ -108,7 +108,7 @@ module _ (text : List ℕ) (p : Places) where
     -- operand j of op k is defined
     op-defined : (k : ℕ) → k < opsOf p → (j : ℕ) → j < arityOf (opOf k) → Defined text (opOf k) (vs .list) (vs .inputs + k) j
     op-defined k l =
-        all-defined text (opOf k) (vs .list) (vs .inputs + k) (typed-parts text (opOf k) (rowOf text (opOf k)) (vs .list) (vs .inputs + k) (s .each k l .typed) .operands)
+        all-defined text (opOf k) (vs .list) (vs .inputs + k) (typed-parts text (opOf k) (rowNamedIn text (opOf k)) (vs .list) (vs .inputs + k) (s .each k l .typed) .operands)
 
     -- it names a value before op k
     pub operand-before : (k : ℕ) → k < opsOf p → (j : ℕ) → j < arityOf (opOf k) → valueNamed text (vs .list) (vs .inputs + k) (placeOf (opOf k) operandName j) < vs .inputs + k
@@ -116,8 +116,8 @@ module _ (text : List ℕ) (p : Places) where
 
     -- and is written with its type
     pub operand-type : (k : ℕ) → k < opsOf p → (j : ℕ) → j < arityOf (opOf k)
-        → nodeType (operandAt (operationOf text (opOf k) (rowOf text (opOf k)) .types) j) ≡ valueType (valueNamed text (vs .list) (vs .inputs + k) (placeOf (opOf k) operandName j))
-    operand-type k l j m = rw (written-at text (opOf k) (rowOf text (opOf k)) j m) (defined-type (opOf k) (vs .inputs + k) j (op-defined k l j m))
+        → nodeType (operandAt (operationOf text (opOf k) (rowNamedIn text (opOf k)) .types) j) ≡ valueType (valueNamed text (vs .list) (vs .inputs + k) (placeOf (opOf k) operandName j))
+    operand-type k l j m = rw (written-at text (opOf k) (rowNamedIn text (opOf k)) j m) (defined-type (opOf k) (vs .inputs + k) j (op-defined k l j m))
 
     -- so what the return names
     pub return-defined : (j : ℕ) → j < arityOf (opOf (opsOf p)) → Defined text (opOf (opsOf p)) (vs .list) (vs .inputs + opsOf p) j
@@ -127,14 +127,14 @@ module _ (text : List ℕ) (p : Places) where
     unfolding nodeAt operandsOf
     scoped-at k l = all-tab (λ i. i < vs .inputs + k) (arityOf (opOf k)) _ (operand-before k l)
 
-    written-as : (k : ℕ) → k < opsOf p → nodeAt text p vs k .from ≡ map (typeAt (inputTypes vs) (nodesIn text p vs)) (nodeAt text p vs k .operands)
+    written-as : (k : ℕ) → k < opsOf p → nodeAt text p vs k .from ≡ map (valueTypeAt (inputTypes vs) (nodesIn text p vs)) (nodeAt text p vs k .operands)
     unfolding nodeAt operandsOf operationOf
     written-as k l =
         let op = opOf k in
         let named : ℕ → ℕ = λ j. valueNamed text (vs .list) (vs .inputs + k) (placeOf op operandName j) in
-        tab-cong (arityOf op) (λ j. nodeType (operandAt (operationOf text op (rowOf text op) .types) j)) (λ j. typeAt (inputTypes vs) (nodesIn text p vs) (named j))
+        tab-cong (arityOf op) (λ j. nodeType (operandAt (operationOf text op (rowNamedIn text op) .types) j)) (λ j. valueTypeAt (inputTypes vs) (nodesIn text p vs) (named j))
         (λ j m. operand-type k l j m ∙ sym (value-type (named j) (let b = operand-before k l j m in omega arith)))
-        ∙ sym (map-tab (typeAt (inputTypes vs) (nodesIn text p vs)) (arityOf op) named)
+        ∙ sym (map-tab (valueTypeAt (inputTypes vs) (nodesIn text p vs)) (arityOf op) named)
 
     pub granted-at : (k : ℕ) → k < opsOf p → NodeGranted (nodeAt text p vs k) (nodeAt text p vs k .kind)
     unfolding nodeAt

@@ -15,18 +15,18 @@ use Rattle.lists.proofs.TabLaw.{length-tab, getD-tab}
 use Rattle.shape.specs.Index.{size}
 use Rattle.shape.specs.Dims.{dimsOf}
 use Rattle.elementwise.specs.Elementwise.{Holds}
-use Rattle.optable.specs.Table.{value, iotaDimension, dimension, comparisonDirection, Dense, Number, Direction, noAttribute, attributes, attributeNames, attributeKind, choiceKind, ops, rowAt, ruleCode}
-use Rattle.optable.specs.Find.{same, placeIn, slotIn}
+use Rattle.optable.specs.Table.{value, iotaDimension, dimension, comparisonDirection, DenseKind, Number, Direction, noAttribute, attributes, attributeNames, attributeKind, choiceKind, ops, rowAt, ruleCode}
+use Rattle.optable.specs.Find.{same, namePlace, slotIn}
 use Rattle.optable.specs.declared.Row.{Row}
 use Rattle.optable.specs.declared.Rule.{Rule}
 use Rattle.optable.specs.declared.Rule.the-variants.{Compare as CompareRule, Concatenate as ConcatenateRule, Constant as ConstantRule, Iota as IotaRule}
-use Rattle.attribute.specs.Attribute.{formAt, choiceAt, denseAt}
+use Rattle.attribute.specs.Attribute.{formAt, choiceAt, denseTokens}
 use Rattle.dense.proofs.LengthLaw.{dense-length, dense-values}
 use Rattle.dimrules.specs.declared.TensorType.{TensorType}
 use Rattle.program.specs.declared.Parts.{Parts}
 use Rattle.places.specs.Places.{operandType, resultType, attributeName, bodyOpen, placeOf, blankType, typeIn, typeOfPart}
 use Rattle.places.proofs.TypeInLaw.{type-in-sized, type-in-six}
-use Rattle.attributes.specs.Attributes.{attributesOf, attributeOf, standsAt, stands, choiceFits, denseFits, kindFits, attributeFits, neededAt, attributesFit, nameOf, numbersBy, numbersOf, choiceOf, denseType}
+use Rattle.attributes.specs.Attributes.{attributesOf, attributeOf, standsAt, stands, choiceFits, denseFits, kindFits, attributeFits, neededAt, attributesFit, nameOf, numbersBy, attributeNumbers, choiceOf, denseType}
 use Rattle.attributes.proofs.AttributesLaw.{numbers-few, numbers-six, dense-type-sized, dense-type-six, attributes-each, attributes-needed}
 use Rattle.bodies.proofs.BodiesLaw.{argument-six}
 use Rattle.operands.specs.Operands.{arityOf}
@@ -34,7 +34,7 @@ use Rattle.typing.specs.Typing.{typesOf, bodyType, operationOf}
 use Rattle.operands.proofs.OperandsLaw.{arity-few}
 use Rattle.typing.proofs.TypingLaw.{types-at, type-sized, body-sized}
 use Rattle.facts.specs.Facts.{SixDims, ShapeRead, ListRead, Shaped}
-use Rattle.nodes.specs.Nodes.{elementsOf}
+use Rattle.nodes.specs.Nodes.{denseElements}
 
 -- ---- sizes
 
@@ -56,7 +56,7 @@ unfolding bodyType
 argument-read text op row j =
     record { sized = body-sized text op row j; six = pick-six (row .body) _ blankType (argument-six text (placeOf op bodyOpen 0) j) refl }
 
-list-read : (text : List ℕ) (op : Parts) (k : ℕ) → ListRead (numbersOf text op k)
+list-read : (text : List ℕ) (op : Parts) (k : ℕ) → ListRead (attributeNumbers text op k)
 list-read text op k = record { few = numbers-few text op k; six = numbers-six text op k }
 
 pub operation-shaped : (text : List ℕ) (op : Parts) (row : Row) → Shaped (operationOf text op row)
@@ -89,19 +89,19 @@ first-asked r k all i l e =
     (ltb-true 0 (row .needed) (h .0), eqb-true (row .a) k (h .1))
 
 constant-asks : allBelow (length ops) (λ i. asks ConstantRule value (rowAt i)) ≡ true
-unfolding allBelow rowAt ops ruleCode attributes attributeNames placeIn firstWhere same
+unfolding allBelow rowAt ops ruleCode attributes attributeNames namePlace firstWhere same
 constant-asks = refl
 
 iota-asks : allBelow (length ops) (λ i. asks IotaRule iotaDimension (rowAt i)) ≡ true
-unfolding allBelow rowAt ops ruleCode attributes attributeNames placeIn firstWhere same
+unfolding allBelow rowAt ops ruleCode attributes attributeNames namePlace firstWhere same
 iota-asks = refl
 
 concatenate-asks : allBelow (length ops) (λ i. asks ConcatenateRule dimension (rowAt i)) ≡ true
-unfolding allBelow rowAt ops ruleCode attributes attributeNames placeIn firstWhere same
+unfolding allBelow rowAt ops ruleCode attributes attributeNames namePlace firstWhere same
 concatenate-asks = refl
 
 compare-asks : allBelow (length ops) (λ i. asks CompareRule comparisonDirection (rowAt i)) ≡ true
-unfolding allBelow rowAt ops ruleCode attributes attributeNames placeIn firstWhere same
+unfolding allBelow rowAt ops ruleCode attributes attributeNames namePlace firstWhere same
 compare-asks = refl
 
 -- what is found passes the test
@@ -132,16 +132,16 @@ module _ (text : List ℕ) (op : Parts) (i : ℕ) (l : i < length ops) (fit : at
   first-stands k h = rw (h .1) at (attributes-needed text op (rowAt i) fit 0 (h .0))
 
   -- a number alone is the only one of its list
-  one-of : (k : ℕ) → attributeKind k ≡ Number → (0 < rowAt i .needed) × (rowAt i .a ≡ k) → numbersOf text op (rowAt i .a) .count ≡ 1
-  unfolding numbersOf numbersBy
+  one-of : (k : ℕ) → attributeKind k ≡ Number → (0 < rowAt i .needed) × (rowAt i .a ≡ k) → attributeNumbers text op (rowAt i .a) .count ≡ 1
+  unfolding attributeNumbers numbersBy
   one-of k e h = rw (h .1, first-stands k h, e)
 
-  pub iota-number : rowAt i .rule ≡ IotaRule → numbersOf text op (rowAt i .a) .count ≡ 1
-  unfolding attributeKind attributes attributeNames placeIn firstWhere same
+  pub iota-number : rowAt i .rule ≡ IotaRule → attributeNumbers text op (rowAt i .a) .count ≡ 1
+  unfolding attributeKind attributes attributeNames namePlace firstWhere same
   iota-number e = one-of iotaDimension refl (first-asked IotaRule iotaDimension iota-asks i l e)
 
-  pub concatenate-number : rowAt i .rule ≡ ConcatenateRule → numbersOf text op (rowAt i .a) .count ≡ 1
-  unfolding attributeKind attributes attributeNames placeIn firstWhere same
+  pub concatenate-number : rowAt i .rule ≡ ConcatenateRule → attributeNumbers text op (rowAt i .a) .count ≡ 1
+  unfolding attributeKind attributes attributeNames namePlace firstWhere same
   concatenate-number e = one-of dimension refl (first-asked ConcatenateRule dimension concatenate-asks i l e)
 
   -- the value of an attribute that stands is of the attribute's kind
@@ -158,14 +158,14 @@ module _ (text : List ℕ) (op : Parts) (i : ℕ) (l : i < length ops) (fit : at
 
   -- the value of a constant is read whole
   value-fits : stands text op value ≡ true → denseFits text (nameOf text op value) ≡ true
-  unfolding kindFits attributeKind attributes attributeNames placeIn firstWhere same
+  unfolding kindFits attributeKind attributes attributeNames namePlace firstWhere same
   value-fits e =
       let name = nameOf text op value in
-      both-true (eqb (formAt text name) Dense) (denseFits text name) (kind-fits value e) .1
+      both-true (eqb (formAt text name) DenseKind) (denseFits text name) (kind-fits value e) .1
 
   -- a compare has its comparison_direction
   pub compare-choice : rowAt i .rule ≡ CompareRule → choiceKind (choiceOf text op comparisonDirection) ≡ Direction
-  unfolding choiceOf kindFits choiceFits attributeKind attributes attributeNames placeIn firstWhere same
+  unfolding choiceOf kindFits choiceFits attributeKind attributes attributeNames namePlace firstWhere same
   compare-choice e =
       let s = first-stands comparisonDirection (first-asked CompareRule comparisonDirection compare-asks i l e) in
       let name = nameOf text op comparisonDirection in
@@ -176,10 +176,10 @@ module _ (text : List ℕ) (op : Parts) (i : ℕ) (l : i < length ops) (fit : at
   pub constant-reads : rowAt i .rule ≡ ConstantRule → (stands text op value ≡ true) × (denseFits text (nameOf text op value) ≡ true)
   constant-reads e = let s = first-stands value (first-asked ConstantRule value constant-asks i l e) in (s, value-fits s)
 
-  pub constant-elements : rowAt i .rule ≡ ConstantRule → Holds (denseType text op value .element) (size (dimsOf (denseType text op value .shape))) (elementsOf text op)
-  unfolding denseType denseFits elementsOf
+  pub constant-elements : rowAt i .rule ≡ ConstantRule → Holds (denseType text op value .element) (size (dimsOf (denseType text op value .shape))) (denseElements text op)
+  unfolding denseType denseFits denseElements
   constant-elements e =
       let s = first-stands value (first-asked ConstantRule value constant-asks i l e) in
-      let c = denseAt text (nameOf text op value) in
+      let c = denseTokens text (nameOf text op value) in
       let t = typeIn text (c .ty) in
       rw s (record { sized = dense-length (t .element) (dimsOf (t .shape)) text (c .literal) (value-fits s); ranged = dense-values (t .element) (dimsOf (t .shape)) text (c .literal) (value-fits s) })

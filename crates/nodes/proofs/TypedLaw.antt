@@ -13,7 +13,7 @@ use Rattle.lists.proofs.TestLaw.{both-true}
 use Rattle.shape.specs.Dims.{dimsOf}
 use Rattle.ops.specs.declared.Kind.{Kind}
 use Rattle.ops.specs.declared.Kind.the-variants.{Constant, Iota, Elementwise, Pairwise, Quotient, Compare, Convert, Select, Clamp, Moved, Pad, Concatenate, DynamicSlice, Reduce}
-use Rattle.ops.specs.Typed.{Granted as NodeGranted}
+use Rattle.ops.specs.Typed.{NodeGranted}
 use Rattle.optable.specs.Table.{comparisonDirection, value, Direction, ops, rowAt, choiceKind, directionAt, mayReduce}
 use Rattle.optable.specs.declared.Row.{Row}
 use Rattle.optable.specs.declared.Class.the-variants as class
@@ -33,14 +33,14 @@ use Rattle.attributes.specs.Attributes.{attributesFit, choiceOf, stands, denseF
 use Rattle.program.specs.Parts.{bodyAt}
 use Rattle.bodies.specs.Bodies.{rowNamed, bodyCounted, opCounted, innerOp, isReducer, onBoth, returnsIt, oneType, formed, bodyFits, bodyRow}
 use Rattle.operands.specs.Operands.{valueNamed, arityOf, operandTyped, operandsTyped}
-use Rattle.typing.specs.Typing.{rowOf, typesOf, operationOf, resultsAre, bodiesFit, inTable, typedOp}
+use Rattle.typing.specs.Typing.{rowNamedIn, typesOf, operationOf, resultsAre, bodiesFit, inTable, typedOp}
 use Rattle.operands.proofs.OperandsLaw.{arity-few}
 use Rattle.typing.proofs.TypingLaw.{types-at}
-use Rattle.facts.specs.Facts.{ShapeRead, ruleOf, hasBody, kindBy, OneNumber, RowFor, AcceptedAs, nodeType, nodeFor}
+use Rattle.facts.specs.Facts.{ShapeRead, ruleOfKind, hasBody, kindBy, OneNumber, RowFor, AcceptedAs, nodeType, nodeFor}
 use Rattle.facts.proofs.AcceptedLaw.{row-for, accepted}
 use Rattle.facts.proofs.BridgeLaw.{alike-dims}
 use Rattle.facts.proofs.NodeLaw.{node-granted}
-use Rattle.nodes.specs.Nodes.{operationBy, reducerAt, kindOf, elementsOf}
+use Rattle.nodes.specs.Nodes.{operationBy, reducerAt, opKind, denseElements}
 use Rattle.nodes.proofs.ReadLaw.{operation-shaped, iota-number, concatenate-number, compare-choice, constant-reads, constant-elements}
 
 -- two types of one meaning, by the lists of their dimensions
@@ -116,23 +116,23 @@ written-at text op row j l = let few = arity-few op in types-at text op j (omega
 
 -- ---- the op
 
-module _ (text : List ℕ) (op : Parts) (values : List Value) (n : ℕ) (typed : typedOp text op (rowOf text op) values n ≡ true) where
+module _ (text : List ℕ) (op : Parts) (values : List Value) (n : ℕ) (typed : typedOp text op (rowNamedIn text op) values n ≡ true) where
   abbrev row : ℕ
   row = rowNamed text (placeOf op opName 0)
 
-  parts : TypedParts text op (rowOf text op) values n
-  parts = typed-parts text op (rowOf text op) values n typed
+  parts : TypedParts text op (rowNamedIn text op) values n
+  parts = typed-parts text op (rowNamedIn text op) values n typed
 
   inside : row < length ops
   unfolding inTable
   inside = ltb-true row (length ops) (parts .table)
 
-  row-of-kind : RowFor (kindOf text op) (rowOf text op)
-  unfolding kindOf rowOf
+  row-of-kind : RowFor (opKind text op) (rowNamedIn text op)
+  unfolding opKind rowNamedIn
   row-of-kind = row-for (directionAt (choiceOf text op comparisonDirection)) (reducerAt (bodyRow text (placeOf op bodyOpen 0))) row inside
 
-  one-number : (kind : Kind) → RowFor kind (rowOf text op) → OneNumber kind (operationOf text op (rowOf text op))
-  unfolding rowOf operationOf
+  one-number : (kind : Kind) → RowFor kind (rowNamedIn text op) → OneNumber kind (operationOf text op (rowNamedIn text op))
+  unfolding rowNamedIn operationOf
   one-number Iota r = iota-number text op row inside (parts .attributes) (r .rule)
   one-number Concatenate r = concatenate-number text op row inside (parts .attributes) (r .rule)
   one-number Constant r = tt
@@ -148,37 +148,37 @@ module _ (text : List ℕ) (op : Parts) (values : List Value) (n : ℕ) (typed :
   one-number DynamicSlice r = tt
   one-number (Reduce body) r = tt
 
-  pub typed-constant : kindOf text op ≡ Constant → (stands text op value ≡ true) × (denseFits text (nameOf text op value) ≡ true)
-  unfolding rowOf
-  typed-constant e = constant-reads text op row inside (parts .attributes) (row-of-kind .rule ∙ ap ruleOf e)
+  pub typed-constant : opKind text op ≡ Constant → (stands text op value ≡ true) × (denseFits text (nameOf text op value) ≡ true)
+  unfolding rowNamedIn
+  typed-constant e = constant-reads text op row inside (parts .attributes) (row-of-kind .rule ∙ ap ruleOfKind e)
 
   -- a compare has its direction
-  pub typed-direction : rowOf text op .class ≡ class.Compare → choiceKind (choiceOf text op comparisonDirection) ≡ Direction
-  unfolding rowOf kindOf
+  pub typed-direction : rowNamedIn text op .class ≡ class.Compare → choiceKind (choiceOf text op comparisonDirection) ≡ Direction
+  unfolding rowNamedIn opKind
   typed-direction e =
       compare-choice text op row inside (parts .attributes)
-      (row-of-kind .rule ∙ ap (λ c. ruleOf (kindBy (directionAt (choiceOf text op comparisonDirection)) (reducerAt (bodyRow text (placeOf op bodyOpen 0))) c)) e)
+      (row-of-kind .rule ∙ ap (λ c. ruleOfKind (kindBy (directionAt (choiceOf text op comparisonDirection)) (reducerAt (bodyRow text (placeOf op bodyOpen 0))) c)) e)
 
   -- the body of a reduce is of an op that may be one
-  pub typed-reducer : rowOf text op .class ≡ class.Reduce
+  pub typed-reducer : rowNamedIn text op .class ≡ class.Reduce
       → rowAt (bodyRow text (placeOf op bodyOpen 0)) .reducer ≡ By (reducerAt (bodyRow text (placeOf op bodyOpen 0)))
-  unfolding kindOf bodiesFit isReducer reducerAt
+  unfolding opKind bodiesFit isReducer reducerAt
   typed-reducer e =
       let at = placeOf op bodyOpen 0 in
-      let has : rowOf text op .body ≡ true =
+      let has : rowNamedIn text op .body ≡ true =
       row-of-kind .body ∙ ap (λ c. hasBody (kindBy (directionAt (choiceOf text op comparisonDirection)) (reducerAt (bodyRow text at)) c)) e in
-      let fit = both-true (eqb (countOf op bodyOpen) (pick (rowOf text op .body) 1 0)) (pick (rowOf text op .body) (bodyFits text at) true) (parts .bodies) .1 in
+      let fit = both-true (eqb (countOf op bodyOpen) (pick (rowNamedIn text op .body) 1 0)) (pick (rowNamedIn text op .body) (bodyFits text at) true) (parts .bodies) .1 in
       body-of (rowAt (bodyRow text at) .reducer) (fits-reducer text at (rw has at fit))
 
-  module _ (held : brokenBy (rowOf text op .rule) (operationOf text op (rowOf text op)) ≡ 0) where
-    pub typed-accepted : AcceptedAs (kindOf text op) (operationOf text op (rowOf text op))
+  module _ (held : brokenBy (rowNamedIn text op .rule) (operationOf text op (rowNamedIn text op)) ≡ 0) where
+    pub typed-accepted : AcceptedAs (opKind text op) (operationOf text op (rowNamedIn text op))
     typed-accepted =
-        accepted (kindOf text op) (rowOf text op) (operationOf text op (rowOf text op)) row-of-kind (operation-shaped text op (rowOf text op))
-        (one-number (kindOf text op) row-of-kind) (parts .taken) held
+        accepted (opKind text op) (rowNamedIn text op) (operationOf text op (rowNamedIn text op)) row-of-kind (operation-shaped text op (rowNamedIn text op))
+        (one-number (opKind text op) row-of-kind) (parts .taken) held
 
     -- a constant's elements are of its type
-    pub typed-granted : (operands : List ℕ) → NodeGranted (nodeFor (kindOf text op) (operationOf text op (rowOf text op)) (elementsOf text op) operands) (kindOf text op)
-    unfolding rowOf operationOf
+    pub typed-granted : (operands : List ℕ) → NodeGranted (nodeFor (opKind text op) (operationOf text op (rowNamedIn text op)) (denseElements text op) operands) (opKind text op)
+    unfolding rowNamedIn operationOf
     typed-granted operands =
-        node-granted (kindOf text op) (operationOf text op (rowOf text op)) typed-accepted (elementsOf text op) operands
-        (λ e. constant-elements text op row inside (parts .attributes) (row-of-kind .rule ∙ ap ruleOf e))
+        node-granted (opKind text op) (operationOf text op (rowNamedIn text op)) typed-accepted (denseElements text op) operands
+        (λ e. constant-elements text op row inside (parts .attributes) (row-of-kind .rule ∙ ap ruleOfKind e))

@@ -23,7 +23,7 @@ use Rattle.known.specs.Known.{namesFault, inputsFault}
 use Rattle.typing.specs.declared.Judged.{Judged}
 use Rattle.operands.specs.Operands.{operandsTyped}
 use Rattle.outputs.specs.Outputs.{returnsHeader, typedReturn, returnJudged}
-use Rattle.typing.specs.Typing.{rowOf, operationOf, resultsAre, typedOp, opJudged}
+use Rattle.typing.specs.Typing.{rowNamedIn, operationOf, resultsAre, typedOp, opJudged}
 use Rattle.opwise.specs.Opwise.{byName, byOp, typingOf, opRefusal, opsFrom}
 use Rattle.verify.specs.Verify.{programRefusal}
 use Rattle.lists.proofs.TestLaw.{both-true}
@@ -42,16 +42,16 @@ both-zero n next first q e = by-test (eqb n 0) refl e
 
 judged-op : (text : List ℕ) (op : Parts) (values : List Value) (n : ℕ) → opJudged text op values n .refusal ≡ 0 → OpStands text op values n
 unfolding opJudged
-judged-op text op values n e = by-types (typedOp text op (rowOf text op) values n) refl e
+judged-op text op values n e = by-types (typedOp text op (rowNamedIn text op) values n) refl e
   where
     c : ℕ
-    c = brokenBy (rowOf text op .rule) (operationOf text op (rowOf text op))
+    c = brokenBy (rowNamedIn text op .rule) (operationOf text op (rowNamedIn text op))
 
     by-rules : (b : Bool) → eqb c 0 ≡ b → _≡_ {A = ℕ} (pick b 0 8) 0 → c ≡ 0
     by-rules true t e = eqb-true c 0 t
     by-rules false t e = absurd (omega arith)
 
-    by-types : (b : Bool) → typedOp text op (rowOf text op) values n ≡ b → pick {A = Judged} b (record { refusal = pick (eqb c 0) 0 8; b = c }) (record { refusal = 7; b = 0 }) .refusal ≡ 0
+    by-types : (b : Bool) → typedOp text op (rowNamedIn text op) values n ≡ b → pick {A = Judged} b (record { refusal = pick (eqb c 0) 0 8; b = c }) (record { refusal = 7; b = 0 }) .refusal ≡ 0
         → OpStands text op values n
     by-types true t e = record { typed = t; held = by-rules (eqb c 0) refl e }
     by-types false t e = absurd (omega arith)
@@ -130,7 +130,7 @@ module _ (text : List ℕ) (p : Program) (vs : Values) where
     unfolding resultsAre
     one-result k l =
         let op = opAt text (getD (p .ops) k 0) in
-        let t = typed-parts text op (rowOf text op) (vs .list) (vs .inputs + k) (op-stands k l .typed) in
+        let t = typed-parts text op (rowNamedIn text op) (vs .list) (vs .inputs + k) (op-stands k l .typed) in
         eqb-true (countOf op resultType) 1 (both-true (eqb (countOf op resultName) 1) (eqb (countOf op resultType) 1) (t .results) .1)
 
     pub return-stands : typedReturn text (opAt text (getD (p .ops) (opsOf p) 0)) (p .header) (vs .list) (vs .inputs + opsOf p) ≡ true

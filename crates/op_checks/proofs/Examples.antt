@@ -11,7 +11,7 @@ use Rattle.element.specs.declared.ElementType.the-variants.{I1, I8, I16, U8}
 use Rattle.dimrules.specs.Whole.{numberOf}
 use Rattle.dimrules.specs.Types.{sameElement}
 use Rattle.dimrules.specs.declared.TensorType.{TensorType}
-use Rattle.optable.specs.Names.{same, placeIn}
+use Rattle.optable.specs.Names.{same, namePlace}
 use Rattle.optable.specs.Table.{choices, choiceNames}
 use Rattle.checks.specs.Check.{brokenNumber}
 use Rattle.checks.specs.Formula.{compared, isUnique, isPermutation}
@@ -63,7 +63,7 @@ comparison : ElementType → ℕ → ℕ
 comparison e choice = brokenNumber (compareChecks (tensor e []) (tensor e []) choice (tensor I1 []))
 
 comparisons : (comparison I1 SIGNED ≡ 3) × (comparison I1 UNSIGNED ≡ 0) × (comparison I8 SIGNED ≡ 0) × (comparison I8 UNSIGNED ≡ 3) × (comparison U8 absent ≡ 0)
-unfolding comparison compareChecks compared sameElement compareTypeIs choices choiceNames placeIn same firstWhere
+unfolding comparison compareChecks compared sameElement compareTypeIs choices choiceNames namePlace same firstWhere
 comparisons = (refl, refl, refl, refl, refl)
 
 -- transpose of 2x3x4 by [1, 2, 0] is 3x4x2, not 4x2x3 (the inverse); not a permutation; unlike length; rank 0 (OP-85)

@@ -14,11 +14,11 @@ use Rattle.element.proofs.Ends.{zero-value}
 use Rattle.scalar.specs.Body.{identityOf}
 use Rattle.scalar.specs.declared.Body.{Body}
 use Rattle.elementwise.specs.Elementwise.{Tensor, Holds}
-use Rattle.ops.specs.Typed.{Operand, Granted, typeAt, Accepted, StartsAtIdentity}
+use Rattle.ops.specs.Typed.{Operand, NodeGranted, valueTypeAt, Accepted, StartsAtIdentity}
 use Rattle.ops.proofs.ProgramLaw.{hlo-order-free}
 use Rattle.lists.specs.Lists.{firstWhere}
 use Rattle.run.specs.Tree.{Tree, leaf, node, start, element}
-use Rattle.run.specs.Run.{Program, results, stopped, ended, met}
+use Rattle.run.specs.Run.{RunProgram, results, stopped, ended, met}
 use Rattle.run.specs.Ways.{evaluation, freeRun}
 use Rattle.element.specs.Types.{valueOf, wrapTo, slotFor}
 use Rattle.element.specs.declared.ElementType.the-variants.{I32}
@@ -58,7 +58,7 @@ op2 = op (Quotient Divide) square (square ∷ square ∷ []) [] [] (3 ∷ 1 ∷ 
 abbrev op3 : Node
 op3 = op (Reduce Add) (2 ∷ []) (square ∷ [] ∷ []) (pos 1 ∷ []) [] (4 ∷ 2 ∷ [])
 
-abbrev sums : Program Node
+abbrev sums : RunProgram Node
 sums =
     record {
       inputs = 2;
@@ -123,8 +123,8 @@ accepted =
       inputs = refl;
       scoped = scoped;
       returned = (omega arith, tt);
-      written = each (λ o. o .from ≡ map (typeAt types sums) (o .operands)) refl refl refl refl;
-      granted = each (λ o. Granted o (o .kind)) (record { sized = refl; ranged = (zero-value I32, tt) }) (at0, at1) (at0, at1)
+      written = each (λ o. o .from ≡ map (valueTypeAt types sums) (o .operands)) refl refl refl refl;
+      granted = each (λ o. NodeGranted o (o .kind)) (record { sized = refl; ranged = (zero-value I32, tt) }) (at0, at1) (at0, at1)
           (record { there = omega arith; element = refl }, record { of = record { there = omega arith; element = refl }; count = refl }, record { shape = refl });
     }
   where

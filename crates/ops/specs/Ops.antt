@@ -28,8 +28,8 @@ pub record TensorType : Type 0 where
   pub dims : List ℕ
 
 -- what is read past the end of a list of types
-abbrev pub noType : TensorType
-noType = record { element = I1; dims = [] }
+abbrev pub noTensorType : TensorType
+noTensorType = record { element = I1; dims = [] }
 
 -- An op of a program: its class, its result's type, its operands' types, its attributes, a constant's elements, and the numbers of its operands.
 pub record Node : Type 0 where
@@ -45,51 +45,51 @@ module _ (o : Node) where
   abbrev pub elementOf : ElementType
   elementOf = o .result .element
 
-  abbrev pub dimsOf : List ℕ
-  dimsOf = o .result .dims
+  abbrev pub resultDims : List ℕ
+  resultDims = o .result .dims
 
-  abbrev pub countOf : ℕ
-  countOf = size (o .result .dims)
+  abbrev pub elementCount : ℕ
+  elementCount = size (o .result .dims)
 
   -- of operand j: its element type, its dimensions, whether it has rank 0
   abbrev pub operandElement : ℕ → ElementType
-  operandElement j = getD (o .from) j noType .element
+  operandElement j = getD (o .from) j noTensorType .element
 
   abbrev pub operandDims : ℕ → List ℕ
-  operandDims j = getD (o .from) j noType .dims
+  operandDims j = getD (o .from) j noTensorType .dims
 
   abbrev pub isSingle : ℕ → Bool
   isSingle j = eqb (length (operandDims j)) 0
 
   abbrev pub moved : Move → Tensor → Tensor
-  moved Reshape x = reshaped (operandDims 0) dimsOf x
-  moved BroadcastInDim x = broadcasted (naturals (o .attributes .broadcastDimensions)) (operandDims 0) dimsOf x
-  moved Transpose x = transposed (naturals (o .attributes .permutation)) (operandDims 0) dimsOf x
-  moved Slice x = sliced (naturals (o .attributes .startIndices)) (naturals (o .attributes .strides)) (operandDims 0) dimsOf x
-  moved Reverse x = reversed (naturals (o .attributes .dimensions)) dimsOf x
+  moved Reshape x = reshaped (operandDims 0) resultDims x
+  moved BroadcastInDim x = broadcasted (naturals (o .attributes .broadcastDimensions)) (operandDims 0) resultDims x
+  moved Transpose x = transposed (naturals (o .attributes .permutation)) (operandDims 0) resultDims x
+  moved Slice x = sliced (naturals (o .attributes .startIndices)) (naturals (o .attributes .strides)) (operandDims 0) resultDims x
+  moved Reverse x = reversed (naturals (o .attributes .dimensions)) resultDims x
 
   -- the op of a class on its operands' tensors
   abbrev pub wayOf : Kind → List Tensor → Way Tensor ℕ ℕ
   wayOf Constant args = plain (gives (o .values))
-  wayOf Iota args = plain (gives (counted elementOf (natural (o .attributes .iotaDimension)) dimsOf))
-  wayOf (Elementwise op) args = plain (gives (tab countOf (unaryAt op elementOf (getD args 0 []))))
-  wayOf (Pairwise op) args = plain (gives (tab countOf (binaryAt op elementOf (getD args 0 []) (getD args 1 []))))
-  wayOf (Quotient op) args = plain (divided op elementOf countOf (getD args 0 []) (getD args 1 []))
-  wayOf (Compare d) args = plain (gives (tab countOf (compareAt d (operandElement 0) (getD args 0 []) (getD args 1 []))))
-  wayOf Convert args = plain (gives (tab countOf (convertAt (operandElement 0) elementOf (getD args 0 []))))
-  wayOf Select args = plain (gives (tab countOf (selectAt (isSingle 0) (getD args 0 []) (getD args 1 []) (getD args 2 []))))
+  wayOf Iota args = plain (gives (counted elementOf (natural (o .attributes .iotaDimension)) resultDims))
+  wayOf (Elementwise op) args = plain (gives (tab elementCount (unaryAt op elementOf (getD args 0 []))))
+  wayOf (Pairwise op) args = plain (gives (tab elementCount (binaryAt op elementOf (getD args 0 []) (getD args 1 []))))
+  wayOf (Quotient op) args = plain (divided op elementOf elementCount (getD args 0 []) (getD args 1 []))
+  wayOf (Compare d) args = plain (gives (tab elementCount (compareAt d (operandElement 0) (getD args 0 []) (getD args 1 []))))
+  wayOf Convert args = plain (gives (tab elementCount (convertAt (operandElement 0) elementOf (getD args 0 []))))
+  wayOf Select args = plain (gives (tab elementCount (selectAt (isSingle 0) (getD args 0 []) (getD args 1 []) (getD args 2 []))))
   wayOf Clamp args =
-      plain (gives (tab countOf (clampAt elementOf (isSingle 0) (isSingle 2) (getD args 0 []) (getD args 1 []) (getD args 2 []))))
+      plain (gives (tab elementCount (clampAt elementOf (isSingle 0) (isSingle 2) (getD args 0 []) (getD args 1 []) (getD args 2 []))))
   wayOf (Moved m) args = plain (gives (moved m (getD args 0 [])))
-  wayOf Pad args = plain (gives (padded (o .attributes .edgePaddingLow) (naturals (o .attributes .interiorPadding)) (operandDims 0) dimsOf (getD args 0 []) (getD (getD args 1 []) 0 0)))
-  wayOf Concatenate args = plain (gives (concatenated (natural (o .attributes .dimension)) (map (λ t. t .dims) (o .from)) args dimsOf))
+  wayOf Pad args = plain (gives (padded (o .attributes .edgePaddingLow) (naturals (o .attributes .interiorPadding)) (operandDims 0) resultDims (getD args 0 []) (getD (getD args 1 []) 0 0)))
+  wayOf Concatenate args = plain (gives (concatenated (natural (o .attributes .dimension)) (map (λ t. t .dims) (o .from)) args resultDims))
   wayOf DynamicSlice args =
-      plain (gives (dynamicSliced (operandElement 1) (map (λ s. getD s 0 0) (drop 1 args)) (operandDims 0) dimsOf (getD args 0 [])))
-  wayOf (Reduce body) args = gather (bodyOf body elementOf) (getD (getD args 1 []) 0 0) (rowsOf (naturals (o .attributes .dimensions)) (operandDims 0) dimsOf (getD args 0 []))
+      plain (gives (dynamicSliced (operandElement 1) (map (λ s. getD s 0 0) (drop 1 args)) (operandDims 0) resultDims (getD args 0 [])))
+  wayOf (Reduce body) args = gather (bodyOf body elementOf) (getD (getD args 1 []) 0 0) (rowsOf (naturals (o .attributes .dimensions)) (operandDims 0) resultDims (getD args 0 []))
 
   -- how many elements each result element of a reduction is made of
   abbrev pub rowSizesOf : Kind → List ℕ
-  rowSizesOf (Reduce body) = tab countOf (λ k. size (sliceShape (naturals (o .attributes .dimensions)) (operandDims 0)))
+  rowSizesOf (Reduce body) = tab elementCount (λ k. size (sliceShape (naturals (o .attributes .dimensions)) (operandDims 0)))
   rowSizesOf Constant = []
   rowSizesOf Iota = []
   rowSizesOf (Elementwise op) = []

@@ -24,7 +24,7 @@ use Rattle.optable.specs.declared.Reducer.the-variants.{Not, By}
 use Rattle.optable.specs.declared.Choice.{Choice}
 use Rattle.optable.specs.declared.Choice.the-variants as choice
 use Rattle.optable.specs.declared.Row.{Row}
-use Rattle.optable.specs.Names.{same, placeIn}
+use Rattle.optable.specs.Names.{same, namePlace}
 use Rattle.optable.specs.Table.{attributes, attributeNames, choices, choiceNames, choiceNamed, saidAt, quoted, ops, opNames, opNamed, rowsFrom, noRow, rowAt, Direction, noKind, noChoice, kindSaid, directionSaid, choiceKind, directionAt}
 
 -- an op by its name, what it computes, and the operation of a body of it
@@ -81,7 +81,7 @@ pub record ByNames : Type 0 where
   pub each : map (λ (m : Meant). means (m .name) (rowAt (opNamed (m .name)) .class) (rowAt (opNamed (m .name)) .reducer)) meanings ≡ meanings
 
 pub by-names : ByNames
-unfolding rowAt ops opNames attributes attributeNames placeIn firstWhere same
+unfolding rowAt ops opNames attributes attributeNames namePlace firstWhere same
 by-names = record { all = refl; each = refl }
 
 -- ---- the operation of a body is what its op computes
@@ -115,7 +115,7 @@ reducer-class i b e = sym (class-asked i) ∙ ap (λ (r : Reducer). asked r (row
 pub choices-by-names :
     map (λ n. saidAt (choiceNamed n)) ("EQ" ∷ "NE" ∷ "GE" ∷ "GT" ∷ "LE" ∷ "LT" ∷ "SIGNED" ∷ "UNSIGNED" ∷ [])
     ≡ choice.Compares Eq ∷ choice.Compares Ne ∷ choice.Compares Ge ∷ choice.Compares Gt ∷ choice.Compares Le ∷ choice.Compares Lt ∷ choice.Signed ∷ choice.Unsigned ∷ []
-unfolding saidAt choices choiceNames placeIn firstWhere same
+unfolding saidAt choices choiceNames namePlace firstWhere same
 choices-by-names = refl
 
 -- a choice of the kind of directions says its direction

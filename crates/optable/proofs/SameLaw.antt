@@ -11,7 +11,7 @@ use lib.ListN.{length, getD, drop, drop-of-length-le}
 use lib.Seq.{drop-cons}
 use borrow.Author.Tests.{eqb-true}
 use Rattle.lists.specs.Lists.{pick, firstWhere}
-use Rattle.optable.specs.Find.{same, placeIn}
+use Rattle.optable.specs.Find.{same, namePlace}
 
 pub same-step : (w p : List ℕ) (k : ℕ) → k < length w → k < length p → same (drop k w) (drop k p) ≡ eqb (getD w k 0) (getD p k 0) && same (drop (k + 1) w) (drop (k + 1) p)
 unfolding same
@@ -49,21 +49,21 @@ same-equal (x ∷ w) (y ∷ p) e = ap₂ _∷_ (eqb-true x y (and-left (eqb x y)
 
 -- a turn of the search, and its end
 pub place-step : (ns : List (List ℕ)) (w : List ℕ) (k : ℕ) → k < length ns →
-    placeIn (drop k ns) w ≡ pick (same (getD ns k []) w) 0 (suc (placeIn (drop (k + 1) ns) w))
-unfolding placeIn firstWhere
+    namePlace (drop k ns) w ≡ pick (same (getD ns k []) w) 0 (suc (namePlace (drop (k + 1) ns) w))
+unfolding namePlace firstWhere
 place-step ns w k h = rw (add-one, drop-cons ns k [] h)
 
-pub place-end : (ns : List (List ℕ)) (w : List ℕ) (k : ℕ) → length ns ≤ k → placeIn (drop k ns) w ≡ 0
-unfolding placeIn firstWhere
+pub place-end : (ns : List (List ℕ)) (w : List ℕ) (k : ℕ) → length ns ≤ k → namePlace (drop k ns) w ≡ 0
+unfolding namePlace firstWhere
 place-end ns w k h = rw (drop-of-length-le ns h)
 
 -- a name that is found is the one that stands at its place
-pub place-is : (ns : List (List ℕ)) (w : List ℕ) → placeIn ns w < length ns → getD ns (placeIn ns w) [] ≡ w
-unfolding placeIn firstWhere
+pub place-is : (ns : List (List ℕ)) (w : List ℕ) → namePlace ns w < length ns → getD ns (namePlace ns w) [] ≡ w
+unfolding namePlace firstWhere
 place-is [] w h = absurd (not-suc-le-zero h)
 place-is (n ∷ ns) w h = by-test (same n w) refl h (place-is ns w)
   where
-    by-test : (b : Bool) → same n w ≡ b → pick b 0 (suc (placeIn ns w)) < suc (length ns) → (placeIn ns w < length ns → getD ns (placeIn ns w) [] ≡ w) →
-        getD (n ∷ ns) (pick b 0 (suc (placeIn ns w))) [] ≡ w
+    by-test : (b : Bool) → same n w ≡ b → pick b 0 (suc (namePlace ns w)) < suc (length ns) → (namePlace ns w < length ns → getD ns (namePlace ns w) [] ≡ w) →
+        getD (n ∷ ns) (pick b 0 (suc (namePlace ns w))) [] ≡ w
     by-test true e h rest = same-equal n w e
     by-test false e h rest = rest (le-of-suc-le-suc h)

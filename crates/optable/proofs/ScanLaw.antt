@@ -13,39 +13,39 @@ use lib.Seq.{getD-take, getD-drop, take-all}
 use borrow.Author.Tests.{eq-eqb, ne-eqb}
 use Rattle.lists.specs.Lists.{pick}
 use Rattle.optable.specs.declared.Word.{Word}
-use Rattle.optable.specs.Table.{names, nameBytes, wordAt}
-use Rattle.optable.specs.Find.{same, placeIn, stretch}
+use Rattle.optable.specs.Table.{names, tableBytes, wordAt}
+use Rattle.optable.specs.Find.{same, namePlace, stretch}
 use Rattle.optable.proofs.TableLaw.{word-name}
 use Rattle.optable.proofs.SameLaw.{same-step, same-end, same-lengths, place-step, place-end}
 
-module _ (bytes : List ℕ) (at len : ℕ) (fits : at + len ≤ length nameBytes) where
-  word-length : length (take len (drop at nameBytes)) ≡ len
+module _ (bytes : List ℕ) (at len : ℕ) (fits : at + len ≤ length tableBytes) where
+  word-length : length (take len (drop at tableBytes)) ≡ len
   word-length = simp (length-take, length-drop) (omega arith)
 
-  word-byte : (k : ℕ) → k < len → getD (take len (drop at nameBytes)) k 0 ≡ getD nameBytes (at + k) 0
-  word-byte k h = getD-take len (drop at nameBytes) k 0 h ∙ getD-drop at nameBytes k 0
+  word-byte : (k : ℕ) → k < len → getD (take len (drop at tableBytes)) k 0 ≡ getD tableBytes (at + k) 0
+  word-byte k h = getD-take len (drop at tableBytes) k 0 h ∙ getD-drop at tableBytes k 0
 
-  pub lengths-differ : (length bytes ≡ len → ⊥) → false ≡ same (take len (drop at nameBytes)) bytes
+  pub lengths-differ : (length bytes ≡ len → ⊥) → false ≡ same (take len (drop at tableBytes)) bytes
   lengths-differ h = sym (same-lengths _ bytes (λ e. h (sym e ∙ word-length)))
 
   module _ (equal : length bytes ≡ len) (k : ℕ)
-      (matched : same (drop k (take len (drop at nameBytes))) (drop k bytes) ≡ same (take len (drop at nameBytes)) bytes) where
+      (matched : same (drop k (take len (drop at tableBytes))) (drop k bytes) ≡ same (take len (drop at tableBytes)) bytes) where
     step : k < len →
-        same (take len (drop at nameBytes)) bytes
-        ≡ eqb (getD nameBytes (at + k) 0) (getD bytes k 0) && same (drop (k + 1) (take len (drop at nameBytes))) (drop (k + 1) bytes)
+        same (take len (drop at tableBytes)) bytes
+        ≡ eqb (getD tableBytes (at + k) 0) (getD bytes k 0) && same (drop (k + 1) (take len (drop at tableBytes))) (drop (k + 1) bytes)
     step h =
-        sym matched ∙ same-step (take len (drop at nameBytes)) bytes k (rw word-length h) (rw equal h)
-        ∙ ap (λ (x : ℕ). eqb x (getD bytes k 0) && same (drop (k + 1) (take len (drop at nameBytes))) (drop (k + 1) bytes)) (word-byte k h)
+        sym matched ∙ same-step (take len (drop at tableBytes)) bytes k (rw word-length h) (rw equal h)
+        ∙ ap (λ (x : ℕ). eqb x (getD bytes k 0) && same (drop (k + 1) (take len (drop at tableBytes))) (drop (k + 1) bytes)) (word-byte k h)
 
-    pub byte-differs : k < len → (x : ℕ) → x ≡ getD nameBytes (at + k) 0 → (x ≡ getD bytes k 0 → ⊥) → false ≡ same (take len (drop at nameBytes)) bytes
+    pub byte-differs : k < len → (x : ℕ) → x ≡ getD tableBytes (at + k) 0 → (x ≡ getD bytes k 0 → ⊥) → false ≡ same (take len (drop at tableBytes)) bytes
     byte-differs h x e d = sym (step h ∙ rw (← e, ne-eqb x (getD bytes k 0) d) refl)
 
-    pub byte-same : k < len → (x : ℕ) → x ≡ getD nameBytes (at + k) 0 → x ≡ getD bytes k 0 →
-        same (drop (k + 1) (take len (drop at nameBytes))) (drop (k + 1) bytes) ≡ same (take len (drop at nameBytes)) bytes
+    pub byte-same : k < len → (x : ℕ) → x ≡ getD tableBytes (at + k) 0 → x ≡ getD bytes k 0 →
+        same (drop (k + 1) (take len (drop at tableBytes))) (drop (k + 1) bytes) ≡ same (take len (drop at tableBytes)) bytes
     byte-same h x e d = sym (step h ∙ rw (← e, eq-eqb x (getD bytes k 0) d) refl)
 
-    pub bytes-same : len ≤ k → true ≡ same (take len (drop at nameBytes)) bytes
-    bytes-same h = sym (same-end (take len (drop at nameBytes)) bytes k (rw word-length h) (rw equal h)) ∙ matched
+    pub bytes-same : len ≤ k → true ≡ same (take len (drop at tableBytes)) bytes
+    bytes-same h = sym (same-end (take len (drop at tableBytes)) bytes k (rw word-length h) (rw equal h)) ∙ matched
 
 module _ (bytes : List ℕ) (first count : ℕ) (fits : first + count ≤ length names) where
   part-length : length (take count (drop first names)) ≡ count
@@ -54,25 +54,25 @@ module _ (bytes : List ℕ) (first count : ℕ) (fits : first + count ≤ length
   part-name : (k : ℕ) → k < count → getD (take count (drop first names)) k [] ≡ getD names (first + k) []
   part-name k h = getD-take count (drop first names) k [] h ∙ getD-drop first names k []
 
-  module _ (k : ℕ) (passed : k + placeIn (drop k (take count (drop first names))) bytes ≡ placeIn (take count (drop first names)) bytes) where
-    module _ (h : k < count) (w : Word) (e : w ≡ wordAt (first + k)) (b : Bool) (q : b ≡ same (take (w .len) (drop (w .at) nameBytes)) bytes) where
-      here : placeIn (drop k (take count (drop first names))) bytes ≡ pick b 0 (suc (placeIn (drop (k + 1) (take count (drop first names))) bytes))
+  module _ (k : ℕ) (passed : k + namePlace (drop k (take count (drop first names))) bytes ≡ namePlace (take count (drop first names)) bytes) where
+    module _ (h : k < count) (w : Word) (e : w ≡ wordAt (first + k)) (b : Bool) (q : b ≡ same (take (w .len) (drop (w .at) tableBytes)) bytes) where
+      here : namePlace (drop k (take count (drop first names))) bytes ≡ pick b 0 (suc (namePlace (drop (k + 1) (take count (drop first names))) bytes))
       here =
           place-step (take count (drop first names)) bytes k (rw part-length h)
-          ∙ ap (λ (t : Bool). pick t 0 (suc (placeIn (drop (k + 1) (take count (drop first names))) bytes)))
-          (ap (λ (n : List ℕ). same n bytes) (part-name k h ∙ sym (word-name (first + k) (omega arith)) ∙ ap (λ (x : Word). take (x .len) (drop (x .at) nameBytes)) (sym e)) ∙ sym q)
+          ∙ ap (λ (t : Bool). pick t 0 (suc (namePlace (drop (k + 1) (take count (drop first names))) bytes)))
+          (ap (λ (n : List ℕ). same n bytes) (part-name k h ∙ sym (word-name (first + k) (omega arith)) ∙ ap (λ (x : Word). take (x .len) (drop (x .at) tableBytes)) (sym e)) ∙ sym q)
 
-      pub name-here : b ≡ true → k ≡ placeIn (take count (drop first names)) bytes
-      name-here t = let z : placeIn (drop k (take count (drop first names))) bytes ≡ 0 = here ∙ rw t refl in omega arith
+      pub name-here : b ≡ true → k ≡ namePlace (take count (drop first names)) bytes
+      name-here t = let z : namePlace (drop k (take count (drop first names))) bytes ≡ 0 = here ∙ rw t refl in omega arith
 
-      pub name-next : b ≡ false → k + 1 + placeIn (drop (k + 1) (take count (drop first names))) bytes ≡ placeIn (take count (drop first names)) bytes
+      pub name-next : b ≡ false → k + 1 + namePlace (drop (k + 1) (take count (drop first names))) bytes ≡ namePlace (take count (drop first names)) bytes
       name-next t =
-          let z : placeIn (drop k (take count (drop first names))) bytes ≡ suc (placeIn (drop (k + 1) (take count (drop first names))) bytes) = here ∙ rw t refl in
+          let z : namePlace (drop k (take count (drop first names))) bytes ≡ suc (namePlace (drop (k + 1) (take count (drop first names))) bytes) = here ∙ rw t refl in
           omega arith
 
-    pub name-none : count ≤ k → k ≤ count → count ≡ placeIn (take count (drop first names)) bytes
+    pub name-none : count ≤ k → k ≤ count → count ≡ namePlace (take count (drop first names)) bytes
     name-none h g =
-        let z : placeIn (drop k (take count (drop first names))) bytes ≡ 0 = place-end _ bytes k (rw part-length h) in
+        let z : namePlace (drop k (take count (drop first names))) bytes ≡ 0 = place-end _ bytes k (rw part-length h) in
         omega arith
 
 -- a stretch goes no further than the text

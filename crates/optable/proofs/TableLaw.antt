@@ -27,8 +27,8 @@ use Rattle.optable.specs.declared.Class.the-variants.{Constant, Iota, El
 use Rattle.optable.specs.declared.Reducer.{Reducer}
 use Rattle.optable.specs.declared.Reducer.the-variants.{Not, By}
 use Rattle.optable.specs.declared.Choice.the-variants as choice
-use Rattle.optable.specs.Names.{same, placeIn}
-use Rattle.optable.specs.Table.{Op, Named, Chosen, value, comparisonDirection, compareType, choiceNamed, attributeKind, choiceForm, saidAt, choiceKind, directionSaid, directionAt, ops, attributes, choiceKinds, choices, opNames, attributeNames, choiceKindNames, choiceNames, names, nameBytes, places, noWord, wordAt, rowsFrom, noRow, rowAt, takesCode, takesOf, ruleCode, ruleOf, classCode, classOf, reducerCode, reducerOf, bit, entryOf, entryAt}
+use Rattle.optable.specs.Names.{same, namePlace}
+use Rattle.optable.specs.Table.{OpRow, Named, Chosen, value, comparisonDirection, compareType, choiceNamed, attributeKind, choiceForm, saidAt, choiceKind, directionSaid, directionAt, ops, attributes, choiceKinds, choices, opNames, attributeNames, choiceKindNames, choiceNames, names, tableBytes, places, noWord, wordAt, rowsFrom, noRow, rowAt, takesCode, takesOf, ruleCode, ruleOf, classCode, classOf, reducerCode, reducerOf, bit, entryOf, entryAt}
 
 -- ---- how many rows
 
@@ -47,23 +47,23 @@ choices-count = refl
 -- ---- the places of names that the code knows
 
 pub value-place : value ≡ 0
-unfolding attributes attributeNames placeIn firstWhere same
+unfolding attributes attributeNames namePlace firstWhere same
 value-place = refl
 
 pub direction-place : comparisonDirection ≡ 13
-unfolding attributes attributeNames placeIn firstWhere same
+unfolding attributes attributeNames namePlace firstWhere same
 direction-place = refl
 
 pub type-place : compareType ≡ 14
-unfolding attributes attributeNames placeIn firstWhere same
+unfolding attributes attributeNames namePlace firstWhere same
 type-place = refl
 
 pub signed-place : choiceNamed "SIGNED" ≡ 6
-unfolding choices choiceNames placeIn firstWhere same
+unfolding choices choiceNames namePlace firstWhere same
 signed-place = refl
 
 pub unsigned-place : choiceNamed "UNSIGNED" ≡ 7
-unfolding choices choiceNames placeIn firstWhere same
+unfolding choices choiceNames namePlace firstWhere same
 unsigned-place = refl
 
 -- ---- rows
@@ -241,8 +241,8 @@ direction-past k h = ap directionSaid (getD-past (map (λ (c : Chosen). c .says)
 -- ---- names and their places
 
 -- the ops' rows hold the places of the first names
-rows-places : (os : List Op) (rest : List (List ℕ)) (at i : ℕ) → i < length os →
-    getD (places at (map (λ (o : Op). o .name) os ++ rest)) i noWord ≡ record { at = getD (rowsFrom at os) i noRow .at; len = getD (rowsFrom at os) i noRow .len }
+rows-places : (os : List OpRow) (rest : List (List ℕ)) (at i : ℕ) → i < length os →
+    getD (places at (map (λ (o : OpRow). o .name) os ++ rest)) i noWord ≡ record { at = getD (rowsFrom at os) i noRow .at; len = getD (rowsFrom at os) i noRow .len }
 rows-places [] rest at i h = absurd (not-suc-le-zero h)
 rows-places (o ∷ os) rest at zero h = refl
 rows-places (o ∷ os) rest at (suc i) h = rows-places os rest (at + length (o .name)) i (le-of-suc-le-suc h)
@@ -269,20 +269,20 @@ place-within at (n ∷ ns) (suc i) h =
     let r = place-within (at + length n) ns i (le-of-suc-le-suc h) in
     rw (length-append n (concat ns)) (omega (arith, r))
 
-pub bytes-length : length nameBytes ≡ 925
-unfolding nameBytes names opNames attributeNames choiceKindNames choiceNames ops attributes choiceKinds choices concat
+pub bytes-length : length tableBytes ≡ 925
+unfolding tableBytes names opNames attributeNames choiceKindNames choiceNames ops attributes choiceKinds choices concat
 bytes-length = refl
 
 pub names-length : length names ≡ 59
 unfolding names opNames attributeNames choiceKindNames choiceNames ops attributes choiceKinds choices
 names-length = refl
 
-pub word-name : (i : ℕ) → i < length names → take (wordAt i .len) (drop (wordAt i .at) nameBytes) ≡ getD names i []
-unfolding wordAt nameBytes
+pub word-name : (i : ℕ) → i < length names → take (wordAt i .len) (drop (wordAt i .at) tableBytes) ≡ getD names i []
+unfolding wordAt tableBytes
 word-name i h = place-holds [] names i h
 
-pub word-within : (i : ℕ) → i < length names → wordAt i .at + wordAt i .len ≤ length nameBytes
-unfolding wordAt nameBytes
+pub word-within : (i : ℕ) → i < length names → wordAt i .at + wordAt i .len ≤ length tableBytes
+unfolding wordAt tableBytes
 word-within i h = let r = place-within 0 names i h in omega (arith, r)
 
 pub others-places : (i : ℕ) → wordAt (length ops + i) ≡ getD (drop (length ops) (places 0 names)) i noWord

@@ -14,5 +14,5 @@ same (x ∷ xs) [] = false
 same (x ∷ xs) (y ∷ ys) = eqb x y && same xs ys
 
 -- the place of a name in a list of names; the list's length where it has no such name
-unfoldable pub placeIn : List (List ℕ) → List ℕ → ℕ
-placeIn names word = firstWhere (λ n. same n word) names
+unfoldable pub namePlace : List (List ℕ) → List ℕ → ℕ
+namePlace names word = firstWhere (λ n. same n word) names

@@ -29,21 +29,21 @@ use Rattle.optable.specs.declared.Choice.the-variants as choice
 use Rattle.optable.specs.declared.Row.{Row}
 use Rattle.optable.specs.declared.Entry.{Entry}
 use Rattle.optable.specs.declared.Word.{Word}
-use Rattle.optable.specs.Names.{placeIn}
+use Rattle.optable.specs.Names.{namePlace}
 use Rattle.scan.specs.Ascii.{ascii}
 
 -- ---- attributes and choices
 
 -- the kinds of an attribute's value: a list `array<i64: ..>`, a number `0 : i64`, a `dense<..> : type`, and the two kinds of choices,
 -- `#stablehlo<comparison_direction ..>` and `#stablehlo<comparison_type ..>`
-abbrev pub Numbers : ℕ
-Numbers = 1
+abbrev pub NumbersKind : ℕ
+NumbersKind = 1
 
 abbrev pub Number : ℕ
 Number = 2
 
-abbrev pub Dense : ℕ
-Dense = 3
+abbrev pub DenseKind : ℕ
+DenseKind = 3
 
 abbrev pub Direction : ℕ
 Direction = 4
@@ -66,19 +66,19 @@ named n k = record { name = ascii n; kind = k }
 -- every attribute of an op of 01, with its kind by the op's Inputs in 000
 unfoldable pub attributes : List Named
 attributes =
-    named "value" Dense
+    named "value" DenseKind
     ∷ named "iota_dimension" Number
-    ∷ named "broadcast_dimensions" Numbers
-    ∷ named "permutation" Numbers
-    ∷ named "start_indices" Numbers
-    ∷ named "limit_indices" Numbers
-    ∷ named "strides" Numbers
+    ∷ named "broadcast_dimensions" NumbersKind
+    ∷ named "permutation" NumbersKind
+    ∷ named "start_indices" NumbersKind
+    ∷ named "limit_indices" NumbersKind
+    ∷ named "strides" NumbersKind
     ∷ named "dimension" Number
-    ∷ named "edge_padding_low" Numbers
-    ∷ named "edge_padding_high" Numbers
-    ∷ named "interior_padding" Numbers
-    ∷ named "dimensions" Numbers
-    ∷ named "slice_sizes" Numbers
+    ∷ named "edge_padding_low" NumbersKind
+    ∷ named "edge_padding_high" NumbersKind
+    ∷ named "interior_padding" NumbersKind
+    ∷ named "dimensions" NumbersKind
+    ∷ named "slice_sizes" NumbersKind
     ∷ named "comparison_direction" Direction
     ∷ named "compare_type" CompareType
     ∷ []
@@ -88,7 +88,7 @@ attributeNames = map (λ (a : Named). a .name) attributes
 
 -- an attribute goes by its place among them
 abbrev pub attributeNamed : String → ℕ
-attributeNamed n = placeIn attributeNames (ascii n)
+attributeNamed n = namePlace attributeNames (ascii n)
 
 abbrev pub value : ℕ
 value = attributeNamed "value"
@@ -172,7 +172,7 @@ choiceNames = map (λ (c : Chosen). c .name) choices
 
 -- a choice goes by its place among them; the place past the last one stands for an attribute that is absent
 abbrev pub choiceNamed : String → ℕ
-choiceNamed n = placeIn choiceNames (ascii n)
+choiceNamed n = namePlace choiceNames (ascii n)
 
 abbrev pub noChoice : ℕ
 noChoice = length choices
@@ -194,7 +194,7 @@ directionSaid choice.Unsigned = Eq
 -- a row: the quoted name as it stands in a text; the least and the most operands; the attributes that must stand, in the order of
 -- 000's Inputs; those that may be absent; whether there is a body; what the first operand, the others and the result may be,
 -- and whether the others must have rank 0; which constraints there are; what it computes; and the operation of a body of this op
-pub record Op : Type 0 where
+pub record OpRow : Type 0 where
   pub name : List ℕ
   pub least : ℕ
   pub most : ℕ
@@ -213,17 +213,17 @@ abbrev pub quoted : String → List ℕ
 quoted n = ascii "\"stablehlo." ++ ascii n ++ ascii "\""
 
 -- k operands and the result from one class, of one type: C1 is type(operands) = type(result)
-abbrev alike : String → ℕ → Takes → Class → Reducer → Op
+abbrev alike : String → ℕ → Takes → Class → Reducer → OpRow
 alike n k t c b =
     record { name = quoted n; least = k; most = k; required = []; optional = []; body = false; first = t; rest = t; scalars = false; result = t; rule = rule.SameTypes; class = c; reducer = b }
 
 -- k operands of any type, the attributes that must stand, and constraints of its own
-abbrev shaped : String → ℕ → List ℕ → Rule → Class → Op
+abbrev shaped : String → ℕ → List ℕ → Rule → Class → OpRow
 shaped n k attrs r c =
     record { name = quoted n; least = k; most = k; required = attrs; optional = []; body = false; first = Any; rest = Any; scalars = false; result = Any; rule = r; class = c; reducer = Not }
 
 -- "one op of add, multiply, maximum, minimum, and, or, xor" may be a reduction's body
-unfoldable pub ops : List Op
+unfoldable pub ops : List OpRow
 ops =
     -- "tensor of signed integer, .. type"; C1 and C2 are one rule in two parts
     record { name = quoted "abs"; least = 1; most = 1; required = []; optional = []; body = false; first = Signed; rest = Signed; scalars = false; result = Signed; rule = rule.Abs; class = Elementwise unary.Abs; reducer = Not }
@@ -271,10 +271,10 @@ ops =
 
 -- an op goes by its place among them
 unfoldable pub opNames : List (List ℕ)
-opNames = map (λ (o : Op). o .name) ops
+opNames = map (λ (o : OpRow). o .name) ops
 
 abbrev pub opNamed : String → ℕ
-opNamed n = placeIn opNames (quoted n)
+opNamed n = namePlace opNames (quoted n)
 
 -- an op that may be the op of a reduction's body
 abbrev pub mayReduce : Reducer → Bool
@@ -288,8 +288,8 @@ unfoldable pub names : List (List ℕ)
 names = opNames ++ attributeNames ++ choiceKindNames ++ choiceNames
 
 -- their bytes, one name after the other
-unfoldable pub nameBytes : List ℕ
-nameBytes = concat names
+unfoldable pub tableBytes : List ℕ
+tableBytes = concat names
 
 -- where each name stands there, from a byte on
 abbrev pub places : ℕ → List (List ℕ) → List Word
@@ -303,12 +303,12 @@ unfoldable pub wordAt : ℕ → Word
 wordAt i = getD (places 0 names) i noWord
 
 -- an op's row, with its name's place among the bytes and the numbers of its attributes, those that must stand first
-abbrev pub rowOf : ℕ → Op → Row
+abbrev pub rowOf : ℕ → OpRow → Row
 rowOf at o =
     let attrs = o .required ++ o .optional in
     record { at = at; len = length (o .name); least = o .least; most = o .most; needed = length (o .required); a = getD attrs 0 noAttribute; b = getD attrs 1 noAttribute; c = getD attrs 2 noAttribute; body = o .body; first = o .first; rest = o .rest; scalars = o .scalars; result = o .result; rule = o .rule; class = o .class; reducer = o .reducer }
 
-abbrev pub rowsFrom : ℕ → List Op → List Row
+abbrev pub rowsFrom : ℕ → List OpRow → List Row
 rowsFrom at [] = []
 rowsFrom at (o ∷ os) = rowOf at o ∷ rowsFrom (at + length (o .name)) os
 

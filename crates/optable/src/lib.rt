@@ -11,8 +11,8 @@ ghost use mathlib.Core.Bool.{true, false, not, _||_};
 ghost use Prim.Native.Nat.{_+_, _≤_, _<_, min};
 ghost use lib.ListN.{length, getD, take, drop};
 ghost use lib.Dec.{eqb};
-ghost use Rattle.optable.specs.Names.{same, placeIn};
-ghost use Rattle.optable.specs.Table.{ops, choices, names, nameBytes, wordAt, noRow, rowAt, takesOf, ruleOf, classOf, reducerOf, entryAt, attributeKind, choiceForm, saidAt, kindSaid, directionSaid, choiceKind, directionAt, mayReduce};
+ghost use Rattle.optable.specs.Names.{same, namePlace};
+ghost use Rattle.optable.specs.Table.{ops, choices, names, tableBytes, wordAt, noRow, rowAt, takesOf, ruleOf, classOf, reducerOf, entryAt, attributeKind, choiceForm, saidAt, kindSaid, directionSaid, choiceKind, directionAt, mayReduce};
 ghost use Rattle.optable.specs.Find.{stretch, findOp, findAttribute, findChoiceKind, findChoice, slotIn};
 ghost use Rattle.optable.specs.Takes.{takes, operandTaken, resultTaken};
 
@@ -474,8 +474,8 @@ pub fn op_row(i: usize) -> Row
 
 // A byte of the names.
 fn name_byte(i: usize) -> u8
-    requires { ⌜ i < length nameBytes ⌝ }
-    ensures { λ r. ⌜ r ≡ getD nameBytes i 0 ⌝ }
+    requires { ⌜ i < length tableBytes ⌝ }
+    ensures { λ r. ⌜ r ≡ getD tableBytes i 0 ⌝ }
 {
     NAMES[i]
 }
@@ -504,8 +504,8 @@ pub fn word_at(i: usize) -> Word
 
 // The bytes are those of the names from at on.
 fn word_is(bytes: &[u8], at: usize, len: usize) -> bool
-    requires { ⌜ at + len ≤ length nameBytes ⌝ }
-    ensures { λ r. ⌜ r ≡ same (take len (drop at nameBytes)) (now (bytes .entry)) ⌝ }
+    requires { ⌜ at + len ≤ length tableBytes ⌝ }
+    ensures { λ r. ⌜ r ≡ same (take len (drop at tableBytes)) (now (bytes .entry)) ⌝ }
 {
     if bytes.len() != len {
         return false;
@@ -523,7 +523,7 @@ fn word_is(bytes: &[u8], at: usize, len: usize) -> bool
 // The place of the bytes among count names from first on.
 fn place_of(bytes: &[u8], first: usize, count: usize) -> usize
     requires { ⌜ first + count ≤ length names ⌝ }
-    ensures { λ r. ⌜ r ≡ placeIn (take count (drop first names)) (now (bytes .entry)) ⌝ }
+    ensures { λ r. ⌜ r ≡ namePlace (take count (drop first names)) (now (bytes .entry)) ⌝ }
 {
     let mut k = 0;
     while k < count {
@@ -539,7 +539,7 @@ fn place_of(bytes: &[u8], first: usize, count: usize) -> usize
 // The same, of the bytes of the text from start up to end.
 fn find(text: &[u8], start: usize, end: usize, first: usize, count: usize) -> usize
     requires { ⌜ first + count ≤ length names ⌝ }
-    ensures { λ r. ⌜ r ≡ placeIn (take count (drop first names)) (stretch (now (text .entry)) start end) ⌝ }
+    ensures { λ r. ⌜ r ≡ namePlace (take count (drop first names)) (stretch (now (text .entry)) start end) ⌝ }
 {
     let stop = least_of(end, text.len());
     if stop < start {

@@ -11,7 +11,7 @@ use lib.ListN.{length, getD}
 use borrow.Author.Tests.{eqb-true, eq-eqb, ne-eqb, le-ltb}
 use Rattle.lists.specs.Lists.{pick, All, concat}
 use Rattle.lists.proofs.AllLaw.{all-get}
-use Rattle.grammar.specs.Symbols.{ResultName, OpName, FuncReturn, BodyOpen, equals, MoreResults, OpRest, Body, Op, leafCount, among}
+use Rattle.grammar.specs.Symbols.{ResultName, OpName, FuncReturn, BodyOpen, equals, MoreResults, OpRest, Body, Op, leafCount, amongSymbols}
 use Rattle.grammar.specs.Grammar.{Production, grammar}
 use Rattle.grammar.specs.Derivation.{_∈_}
 use Rattle.grammar.specs.Leaves.{Yields, Parsed}
@@ -57,22 +57,22 @@ pick-case : (C : ℕ → Type 0) (x k : ℕ) (b c : Bool) → eqb k x ≡ b → 
 pick-case C x k true c e y g t = subst C (sym (eqb-true k x e)) y
 pick-case C x k false c e y g t = g t
 
-one-of-four : (C : ℕ → Type 0) (k : ℕ) → T (among opParts k) → C resultName → C operandName → C operandType → C resultType → C k
+one-of-four : (C : ℕ → Type 0) (k : ℕ) → T (amongSymbols opParts k) → C resultName → C operandName → C operandType → C resultType → C k
 one-of-four C k t a b c d =
-    pick-case C resultName k (eqb k resultName) (among (operandName ∷ operandType ∷ resultType ∷ []) k) refl a
-    (pick-case C operandName k (eqb k operandName) (among (operandType ∷ resultType ∷ []) k) refl b
-    (pick-case C operandType k (eqb k operandType) (among (resultType ∷ []) k) refl c
+    pick-case C resultName k (eqb k resultName) (amongSymbols (operandName ∷ operandType ∷ resultType ∷ []) k) refl a
+    (pick-case C operandName k (eqb k operandName) (amongSymbols (operandType ∷ resultType ∷ []) k) refl b
+    (pick-case C operandType k (eqb k operandType) (amongSymbols (resultType ∷ []) k) refl c
     (pick-case C resultType k (eqb k resultType) false refl d (λ z. absurd z))))
     t
 
-one-of-three : (C : ℕ → Type 0) (k : ℕ) → T (among headParts k) → C inputName → C inputType → C outputType → C k
+one-of-three : (C : ℕ → Type 0) (k : ℕ) → T (amongSymbols headParts k) → C inputName → C inputType → C outputType → C k
 one-of-three C k t a b c =
-    pick-case C inputName k (eqb k inputName) (among (inputType ∷ outputType ∷ []) k) refl a
-    (pick-case C inputType k (eqb k inputType) (among (outputType ∷ []) k) refl b
+    pick-case C inputName k (eqb k inputName) (amongSymbols (inputType ∷ outputType ∷ []) k) refl a
+    (pick-case C inputType k (eqb k inputType) (amongSymbols (outputType ∷ []) k) refl b
     (pick-case C outputType k (eqb k outputType) false refl c (λ z. absurd z)))
     t
 
-type-part-small : (k : ℕ) → T (among typeParts k) → k < 11
+type-part-small : (k : ℕ) → T (amongSymbols typeParts k) → k < 11
 type-part-small k t = ltb→lt k 11 (member-passes (λ j. ltb j 11) typeParts k tt t)
 
 -- a role that is not noted outside its own part
@@ -109,7 +109,7 @@ module _ (text : List ℕ) (role : ℕ) (calm : Calm role) (s : Tally) (xs : Lis
       owned k 0 (rolesOf (o .names)) ≡ 0
   no-names k set f free t = naming-case (λ (l : List ℕ). owned k 0 l ≡ 0) (o .naming) refl (λ ms y. none-in k set f free t y)
 
-  op-few : (k : ℕ) → T (among opParts k) → owned k 0 (rolesOf xs) ≤ 8
+  op-few : (k : ℕ) → T (amongSymbols opParts k) → owned k 0 (rolesOf xs) ≤ 8
   unfolding partOf depthAfter
   op-few k t =
       let b = both-each .1 .1 in
@@ -134,7 +134,7 @@ module _ (text : List ℕ) (s : Tally) (xs : List Reading) (each : Each text s x
       parts-every (Typed text) level 0 noParts xs wide-none (none-yet (Typed text)) (level-all (Typed text) level 0 xs (all-typed text s xs low each)) k j
       (type-part-small k t) l m t
 
-  noted-few : (ks : List ℕ) → T (allPass (λ k. ltb k 11) ks) → ((k : ℕ) → T (among ks k) → owned k 0 (rolesOf xs) ≤ 8) → AtMostEight (partsFrom 0 noParts 0 xs) ks
+  noted-few : (ks : List ℕ) → T (allPass (λ k. ltb k 11) ks) → ((k : ℕ) → T (amongSymbols ks k) → owned k 0 (rolesOf xs) ≤ 8) → AtMostEight (partsFrom 0 noParts 0 xs) ks
   noted-few ks u f k t =
       let h = ltb→lt k 11 (member-passes (λ j. ltb j 11) ks k u t) in
       let a = parts-count k 0 noParts xs wide-none h in
@@ -295,7 +295,7 @@ module _ (text : List ℕ) (e : textRefusal text .number ≡ 0) where
         subst (λ (a : ℕ). NameGranted text (opAt text a)) (sym (op-place text e o k l))
         (alone-named (getD (o .ops) k 0) (all-get (OpAlone text OpName) (o .ops) 0 (o .each) k l) (all-get Judged (o .ops) 0 (ops-each .0) k l))
 
-    header-few : (k : ℕ) → T (among headParts k) → owned k 0 (rolesOf (o .header)) ≤ 8
+    header-few : (k : ℕ) → T (amongSymbols headParts k) → owned k 0 (rolesOf (o .header)) ≤ 8
     unfolding partOf depthAfter
     header-few k t =
         one-of-three (λ (k : ℕ). owned k 0 (rolesOf (o .header)) ≤ 8) k t

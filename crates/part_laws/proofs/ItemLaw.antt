@@ -18,7 +18,7 @@ use Rattle.grammar.proofs.Leaves.{leading, nothing-left}
 use Rattle.syntax.specs.Readings.{Reading}
 use Rattle.syntax.specs.Roles.{rolesOf}
 use Rattle.judge.specs.declared.tally.Tally.{Tally}
-use Rattle.judge.specs.Roles.{among, listedRoles, itemRoles}
+use Rattle.judge.specs.Roles.{amongRoles, listedRoles, itemRoles}
 use Rattle.judge.specs.Tally.{itemNumber, itemsAfter, afterToken}
 use Rattle.judge.specs.Sizes.{manyItems, passes}
 use Rattle.judge.proofs.Theorems.{Each, Sound, token-sound}
@@ -78,27 +78,27 @@ false-second true b e f = f
 false-second false b e f = let z : _≡_ {A = ℕ} 0 1 = cc in absurd (omega arith)
 
 -- an item that is not refused has a number of at most eight, and is counted
-item-small : (text : List ℕ) (s : Tally) (x : Reading) → among listedRoles (x .role) ≡ true → Sound text s x → itemNumber s ≤ 8
+item-small : (text : List ℕ) (s : Tally) (x : Reading) → amongRoles listedRoles (x .role) ≡ true → Sound text s x → itemNumber s ≤ 8
 unfolding passes manyItems
-item-small text s x e g = let b = passes-none text s x (g .sized) .1 .1 .1 .1 .0 in ltb-false _ _ (false-second (among listedRoles (x .role)) (ltb 8 (itemNumber s)) e b)
+item-small text s x e g = let b = passes-none text s x (g .sized) .1 .1 .1 .1 .0 in ltb-false _ _ (false-second (amongRoles listedRoles (x .role)) (ltb 8 (itemNumber s)) e b)
 
 -- the tally after an item, and after a comma
-items-next : (text : List ℕ) (s : Tally) (x : Reading) → among itemRoles (x .role) ≡ true → afterToken text s (x .role) (x .token) .items ≡ itemNumber s
+items-next : (text : List ℕ) (s : Tally) (x : Reading) → amongRoles itemRoles (x .role) ≡ true → afterToken text s (x .role) (x .token) .items ≡ itemNumber s
 unfolding afterToken itemsAfter
 items-next text s x e = rw e
 
-items-same : (text : List ℕ) (s : Tally) (x : Reading) → among itemRoles (x .role) ≡ false → afterToken text s (x .role) (x .token) .items ≡ s .items
+items-same : (text : List ℕ) (s : Tally) (x : Reading) → amongRoles itemRoles (x .role) ≡ false → afterToken text s (x .role) (x .token) .items ≡ s .items
 unfolding afterToken itemsAfter
 items-same text s x e = rw e
 
 comma-goes-on : (text : List ℕ) (s : Tally) (x : Reading) → x .role ≡ comma → itemNumber (afterToken text s (x .role) (x .token)) ≡ s .items + 1
-unfolding afterToken itemsAfter itemNumber among
+unfolding afterToken itemsAfter itemNumber amongRoles
 comma-goes-on text s x e = rw e
 
 -- no member is an item of a list
 abbrev pub plain : List ℕ → Bool
 plain [] = true
-plain (x ∷ xs) = pick (among itemRoles x) false (plain xs)
+plain (x ∷ xs) = pick (amongRoles itemRoles x) false (plain xs)
 
 -- readings of some roles that are no items, and then others
 record After (text : List ℕ) (n : ℕ) (ls : List ℕ) : Type 0 where
@@ -108,8 +108,8 @@ record After (text : List ℕ) (n : ℕ) (ls : List ℕ) : Type 0 where
   each : Each text state others
   kept : state .items ≡ n
 
-plain-first : (x : ℕ) (xs : List ℕ) → T (plain (x ∷ xs)) → (among itemRoles x ≡ false) × T (plain xs)
-plain-first x xs t = go (among itemRoles x) t
+plain-first : (x : ℕ) (xs : List ℕ) → T (plain (x ∷ xs)) → (amongRoles itemRoles x ≡ false) × T (plain xs)
+plain-first x xs t = go (amongRoles itemRoles x) t
   where
     go : (b : Bool) → T (pick b false (plain xs)) → (b ≡ false) × T (plain xs)
     go true t = absurd t
@@ -122,7 +122,7 @@ past-plain text (r ∷ inner) ls s (x ∷ xs) t e a =
     let q : x .role ≡ r = cc in
     let w : rolesOf xs ≡ inner ++ ls = cc in
     let u = plain-first r inner t in
-    let v : among itemRoles (x .role) ≡ false = ap (among itemRoles) q ∙ u .0 in
+    let v : amongRoles itemRoles (x .role) ≡ false = ap (amongRoles itemRoles) q ∙ u .0 in
     let p = past-plain text inner ls (afterToken text s (x .role) (x .token)) xs (u .1) w (a .1) in
     record { state = p .state; others = p .others; roles = p .roles; each = p .each; kept = p .kept ∙ items-same text s x v }
 
@@ -134,7 +134,7 @@ at-least-one s = go (s .more)
     go true = omega arith
     go false = omega arith
 
-module _ (text : List ℕ) (role : ℕ) (inner : List ℕ) (listed : among listedRoles role ≡ true) (counted : among itemRoles role ≡ true) (calm : T (plain inner)) where
+module _ (text : List ℕ) (role : ℕ) (inner : List ℕ) (listed : amongRoles listedRoles role ≡ true) (counted : amongRoles itemRoles role ≡ true) (calm : T (plain inner)) where
   -- n items before: with m more there are at most eight
   chain-few : (m n : ℕ) (ls : List ℕ) (s : Tally) (xs : List Reading) → Chain (role ∷ inner) m ls → rolesOf xs ≡ ls → s .items ≡ n → n ≤ 8 → Each text s xs → n + m ≤ 8
   chain-few m n ls s xs none e i h a = omega arith
@@ -147,8 +147,8 @@ module _ (text : List ℕ) (role : ℕ) (inner : List ℕ) (listed : among liste
       let s1 = afterToken text s (x .role) (x .token) in
       let g = token-sound text s1 y (a .1 .0) in
       let b : itemNumber s1 ≡ n + 1 = comma-goes-on text s x q ∙ ap (λ (z : ℕ). z + 1) i in
-      let f = item-small text s1 y (ap (among listedRoles) r ∙ listed) g in
-      let t = items-next text s1 y (ap (among itemRoles) r ∙ counted) in
+      let f = item-small text s1 y (ap (amongRoles listedRoles) r ∙ listed) g in
+      let t = items-next text s1 y (ap (amongRoles itemRoles) r ∙ counted) in
       let p = past-plain text inner rest (afterToken text s1 (y .role) (y .token)) xs calm w (a .1 .1) in
       let j = chain-few k (n + 1) rest (p .state) (p .others) c (p .roles) (p .kept ∙ (t ∙ b)) (omega arith) (p .each) in
       omega arith
@@ -160,8 +160,8 @@ module _ (text : List ℕ) (role : ℕ) (inner : List ℕ) (listed : among liste
       let r : x .role ≡ role = cc in
       let w : rolesOf xs ≡ inner ++ ls = cc in
       let g = token-sound text s x (a .0) in
-      let f = item-small text s x (ap (among listedRoles) r ∙ listed) g in
-      let t = items-next text s x (ap (among itemRoles) r ∙ counted) in
+      let f = item-small text s x (ap (amongRoles listedRoles) r ∙ listed) g in
+      let t = items-next text s x (ap (amongRoles itemRoles) r ∙ counted) in
       let p = past-plain text inner ls (afterToken text s (x .role) (x .token)) xs calm w (a .1) in
       let o = at-least-one s in
       let j = chain-few m (itemNumber s) ls (p .state) (p .others) c (p .roles) (p .kept ∙ t) f (p .each) in

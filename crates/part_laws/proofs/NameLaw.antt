@@ -12,8 +12,8 @@ use Rattle.lists.specs.Lists.{pick, All, firstWhere}
 use Rattle.text.specs.Lex.{tokenAt}
 use Rattle.text.specs.declared.Token.{Token}
 use Rattle.optable.specs.Table.{opNames}
-use Rattle.optable.specs.Find.{same, stretch, placeIn, findOp}
-use Rattle.grammar.specs.Symbols.{OpName, leafCount, among}
+use Rattle.optable.specs.Find.{same, stretch, namePlace, findOp}
+use Rattle.grammar.specs.Symbols.{OpName, leafCount, amongSymbols}
 use Rattle.grammar.specs.Machine.{Cell, fails, skips, takes, step}
 use Rattle.grammar.proofs.TableTest.{both, both-left, both-right, both-make, or, implies, implied, upTo, up-to}
 use Rattle.syntax.specs.Kinds.{kindOf}
@@ -21,7 +21,7 @@ use Rattle.syntax.specs.Readings.{Reading, reading, labelled, readingsFrom, rea
 use Rattle.syntax.specs.Roles.{rolesOf}
 use Rattle.syntax.proofs.AloneLaw.{token-again}
 use Rattle.judge.specs.declared.tally.Tally.{Tally}
-use Rattle.judge.specs.Roles.{among as amongRoles}
+use Rattle.judge.specs.Roles.{amongRoles}
 use Rattle.judge.specs.Tally.{afterToken}
 use Rattle.judge.specs.Judge.{unknown}
 use Rattle.judge.proofs.Theorems.{Each, Sound, token-sound}
@@ -66,7 +66,7 @@ module _ (text : List ℕ) where
   Known k a = k ≡ 0 → findOp text a (tokenAt text a .end) < length opNames
 
   name-known : (t : Token) → unknown text OpName t ≡ false → findOp text (t .start) (t .end) < length opNames
-  unfolding unknown findOp placeIn amongRoles
+  unfolding unknown findOp namePlace amongRoles
   name-known t e =
       let h = found-within (λ n. same n (stretch text (t .start) (t .end))) opNames in
       let n = eqb-false (firstWhere (λ m. same m (stretch text (t .start) (t .end))) opNames) (length opNames) e in
@@ -74,19 +74,19 @@ module _ (text : List ℕ) where
 
 -- outside bodies only an op's own name is in the part of quoted names
 abbrev nameTest : ℕ → Bool
-nameTest r = implies (both (among noReturn r) (eqb (partOf r) 0)) (eqb r OpName)
+nameTest r = implies (both (amongSymbols noReturn r) (eqb (partOf r) 0)) (eqb r OpName)
 
-name-role : (r : ℕ) → r < leafCount → T (among noReturn r) → partOf r ≡ 0 → r ≡ OpName
+name-role : (r : ℕ) → r < leafCount → T (amongSymbols noReturn r) → partOf r ≡ 0 → r ≡ OpName
 unfolding partOf
 name-role r h t e =
-    eqb→eq r OpName (implied (both (among noReturn r) (eqb (partOf r) 0)) (eqb r OpName) (up-to leafCount nameTest r tt h)
-    (both-make (among noReturn r) (eqb (partOf r) 0) t (subst T (sym (eq-eqb (partOf r) 0 e)) tt)))
+    eqb→eq r OpName (implied (both (amongSymbols noReturn r) (eqb (partOf r) 0)) (eqb r OpName) (up-to leafCount nameTest r tt h)
+    (both-make (amongSymbols noReturn r) (eqb (partOf r) 0) t (subst T (sym (eq-eqb (partOf r) 0 e)) tt)))
 
 pub level-known : (text : List ℕ) (s : Tally) (d : ℕ) (xs : List Reading) → Each text s xs → All (λ l. l < leafCount) (rolesOf xs) → All (Again text) xs → T (outside noReturn d (rolesOf xs)) →
     Level (Known text) 0 d xs
 level-known text s d [] e h a t = tt
 level-known text s d (x ∷ xs) e h a t =
-    let m = or (ltb 0 d) (among noReturn (x .role)) in
+    let m = or (ltb 0 d) (amongSymbols noReturn (x .role)) in
     let n = outside noReturn (depthAfter d (x .role)) (rolesOf xs) in
     (here (both-left m n t), level-known text (afterToken text s (x .role) (x .token)) (depthAfter d (x .role)) xs (e .1) (h .1) (a .1) (both-right m n t))
   where
@@ -96,5 +96,5 @@ level-known text s d (x ∷ xs) e h a t =
         let u : unknown text OpName (x .token) ≡ false = rw q at (g .known) in
         subst (λ (z : Token). findOp text (x .token .start) (z .end) < length opNames) (sym (a .0)) (name-known text (x .token) u)
 
-    here : T (or (ltb 0 d) (among noReturn (x .role))) → d ≡ 0 → partOf (x .role) < 11 → Known text (partOf (x .role)) (x .token .start)
+    here : T (or (ltb 0 d) (amongSymbols noReturn (x .role))) → d ≡ 0 → partOf (x .role) < 11 → Known text (partOf (x .role)) (x .token .start)
     here u z l k = named (name-role (x .role) (h .0) (rw z at u) k)

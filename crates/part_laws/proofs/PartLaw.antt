@@ -10,7 +10,7 @@ use lib.ListN.{length, getD, set, length-set, replicate}
 use lib.Seq.{getD-set-same, getD-set-other}
 use borrow.Author.Tests.{eqb-true, eqb-false, ltb-true, ltb-false, ne-eqb}
 use Rattle.lists.specs.Lists.{pick}
-use Rattle.grammar.specs.Symbols.{among}
+use Rattle.grammar.specs.Symbols.{amongSymbols}
 use Rattle.grammar.proofs.TableTest.{both, both-left, both-right, or, or-cases}
 use Rattle.grammar.proofs.Within.{allPass, member-passes}
 use Rattle.syntax.specs.Readings.{Reading}
@@ -63,7 +63,7 @@ not-false false t = refl
 abbrev pub without : ℕ → List ℕ → Bool
 without k set = allPass (λ r. not (eqb (partOf r) k)) set
 
-own-none : (k : ℕ) (set : List ℕ) (d r : ℕ) → T (without k set) → T (or (ltb 0 d) (among set r)) → own k d r ≡ 0
+own-none : (k : ℕ) (set : List ℕ) (d r : ℕ) → T (without k set) → T (or (ltb 0 d) (amongSymbols set r)) → own k d r ≡ 0
 own-none k set zero r f t = rw (not-false (eqb (partOf r) k) (member-passes (λ x. not (eqb (partOf x) k)) set r f t))
 own-none k set (suc d) r f t = rw (ne-eqb (suc d) 0 (λ e. omega arith))
 
@@ -71,7 +71,7 @@ own-none k set (suc d) r f t = rw (ne-eqb (suc d) 0 (λ e. omega arith))
 pub owned-past : (k : ℕ) (set : List ℕ) → T (without k set) → (d : ℕ) (ls ms : List ℕ) → T (outside set d ls) → owned k d (ls ++ ms) ≡ owned k 0 ms
 owned-past k set f d [] ms t = ap (λ (n : ℕ). owned k n ms) (eqb→eq d 0 t)
 owned-past k set f d (r ∷ rs) ms t =
-    let a = or (ltb 0 d) (among set r) in
+    let a = or (ltb 0 d) (amongSymbols set r) in
     let b = outside set (depthAfter d r) rs in
     let e = own-none k set d r f (both-left a b t) in
     let i = owned-past k set f (depthAfter d r) rs ms (both-right a b t) in
@@ -81,5 +81,5 @@ owned-past k set f d (r ∷ rs) ms t =
 pub owned-append : (k : ℕ) (set : List ℕ) (d : ℕ) (ls ms : List ℕ) → T (outside set d ls) → owned k d (ls ++ ms) ≡ owned k d ls + owned k 0 ms
 owned-append k set d [] ms t = let e = ap (λ (n : ℕ). owned k n ms) (eqb→eq d 0 t) in omega arith
 owned-append k set d (r ∷ rs) ms t =
-    let i = owned-append k set (depthAfter d r) rs ms (both-right (or (ltb 0 d) (among set r)) (outside set (depthAfter d r) rs) t) in
+    let i = owned-append k set (depthAfter d r) rs ms (both-right (or (ltb 0 d) (amongSymbols set r)) (outside set (depthAfter d r) rs) t) in
     omega arith

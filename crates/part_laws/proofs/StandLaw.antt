@@ -16,13 +16,13 @@ use Rattle.text.specs.declared.Token.{Token}
 use Rattle.types.specs.Tensors.{typeOf}
 use Rattle.optable.specs.Table.{opNames}
 use Rattle.optable.specs.Find.{findOp}
-use Rattle.grammar.specs.Symbols.{OpName, leafCount, among}
+use Rattle.grammar.specs.Symbols.{OpName, leafCount, amongSymbols}
 use Rattle.grammar.specs.Leaves.{Yields, nothing, itself, right}
 use Rattle.grammar.proofs.TableTest.{both, both-left, both-right, implies, implied, upTo, up-to, T-true}
 use Rattle.syntax.specs.Readings.{Reading}
 use Rattle.syntax.specs.Roles.{rolesOf}
 use Rattle.judge.specs.declared.tally.Tally.{Tally}
-use Rattle.judge.specs.Roles.{among as amongRoles, typeRoles, opRoles}
+use Rattle.judge.specs.Roles.{amongRoles, typeRoles, opRoles}
 use Rattle.judge.specs.Tally.{afterToken}
 use Rattle.judge.specs.Sizes.{typePassed, passes}
 use Rattle.judge.specs.Judge.{unknown}
@@ -101,12 +101,12 @@ yields-leaves (right m d) = yields-leaves d
 
 -- a role whose part is one of types is that of a type
 abbrev typeTest : ℕ → Bool
-typeTest r = implies (among typeParts (partOf r)) (both (amongRoles typeRoles r) (not (amongRoles opRoles r)))
+typeTest r = implies (amongSymbols typeParts (partOf r)) (both (amongRoles typeRoles r) (not (amongRoles opRoles r)))
 
-type-role : (r : ℕ) → r < leafCount → T (among typeParts (partOf r)) → (amongRoles typeRoles r ≡ true) × (amongRoles opRoles r ≡ false)
+type-role : (r : ℕ) → r < leafCount → T (amongSymbols typeParts (partOf r)) → (amongRoles typeRoles r ≡ true) × (amongRoles opRoles r ≡ false)
 unfolding partOf amongRoles
 type-role r h t =
-    let x = implied (among typeParts (partOf r)) (both (amongRoles typeRoles r) (not (amongRoles opRoles r))) (up-to leafCount typeTest r tt h) t in (
+    let x = implied (amongSymbols typeParts (partOf r)) (both (amongRoles typeRoles r) (not (amongRoles opRoles r))) (up-to leafCount typeTest r tt h) t in (
       T-true (amongRoles typeRoles r) (both-left (amongRoles typeRoles r) (not (amongRoles opRoles r)) x),
       not-true-false (amongRoles opRoles r) (both-right (amongRoles typeRoles r) (not (amongRoles opRoles r)) x),
     )
@@ -114,7 +114,7 @@ type-role r h t =
 module _ (text : List ℕ) where
   -- the parts that are types hold types
   abbrev pub Typed : ℕ → ℕ → Type 0
-  Typed k a = T (among typeParts k) → TypeStands text a
+  Typed k a = T (amongSymbols typeParts k) → TypeStands text a
 
   known-type : (r : ℕ) (t : Token) → amongRoles typeRoles r ≡ true → amongRoles opRoles r ≡ false → unknown text r t ≡ false → typeOf text (t .start) .known ≡ true
   unfolding unknown

@@ -7,7 +7,7 @@ use mathlib.Core.Bool.{true}
 use mathlib.Core.List.{List, [], _∷_}
 use lib.Dec.{T}
 use lib.ListN.{length}
-use Rattle.grammar.specs.Symbols.{among}
+use Rattle.grammar.specs.Symbols.{amongSymbols}
 use Rattle.types.specs.Tensors.{typeOf}
 use Rattle.optable.specs.Table.{opNames}
 use Rattle.optable.specs.Find.{findOp}
@@ -27,11 +27,11 @@ typeParts = operandType ∷ resultType ∷ inputType ∷ outputType ∷ []
 
 -- every type that is noted
 abbrev pub TypesStand : List ℕ → Parts → Type 0
-TypesStand text p = (k j : ℕ) → T (among typeParts k) → j < countOf p k → j < 8 → TypeStands text (placeOf p k j)
+TypesStand text p = (k j : ℕ) → T (amongSymbols typeParts k) → j < countOf p k → j < 8 → TypeStands text (placeOf p k j)
 
 -- "At most 8 operands of an op, inputs, or results" (01, Sizes, 5): part k is whole
 abbrev pub AtMostEight : Parts → List ℕ → Type 0
-AtMostEight p ks = (k : ℕ) → T (among ks k) → countOf p k ≤ 8
+AtMostEight p ks = (k : ℕ) → T (amongSymbols ks k) → countOf p k ≤ 8
 
 -- an op, by its parts; and the bodies of it that are noted
 pub record OpGranted (text : List ℕ) (op : Parts) : Type 0 where

@@ -12,7 +12,7 @@ use Rattle.lists.proofs.TestLaw.{both-true}
 use Rattle.lists.specs.Lists.{pick}
 use Rattle.shape.specs.Dims.{Sized}
 use Rattle.types.specs.declared.tensors.TypeRead.{TypeRead}
-use Rattle.types.specs.Tensors.{elementNamed, stretch, dimensionsFrom, countOf, typeOf, typeAfter, typed, foreign}
+use Rattle.types.specs.Tensors.{elementNamed, bytesBetween, dimensionsFrom, byteCount, typeOf, typeAfter, typed, foreign}
 use Rattle.scan.specs.Ascii.{ascii}
 use Rattle.scan.specs.Bytes.{startsWith}
 use Rattle.scan.specs.TypeText.{shapeEnd}
@@ -57,8 +57,8 @@ after-six : (text : List ℕ) (at : ℕ) → Six (typeAfter text at)
 unfolding typeAfter
 after-six text at =
     let name = elementNamed text (shapeEnd text at) (typeClose text at) in
-    let shape = stretch at (shapeEnd text at) text in
-    pick-six (name .known && eqb (countOf 63 shape) 0) (typed (name .element) (dimensionsFrom 0 shape)) foreign
+    let shape = bytesBetween at (shapeEnd text at) text in
+    pick-six (name .known && eqb (byteCount 63 shape) 0) (typed (name .element) (dimensionsFrom 0 shape)) foreign
     (typed-six (name .element) (dimensionsFrom 0 shape)) foreign-six
 
 read-six : (text : List ℕ) (at : ℕ) → Six (typeOf text at)

@@ -8,7 +8,7 @@ use lib.ListN.{getD, take, drop}
 use Rattle.lists.specs.Lists.{tab}
 use Rattle.scan.specs.Ascii.{ascii}
 use Rattle.scan.specs.Bytes.{isLetter, isDigit, isSpace, isSigil, isSign, inRun, runFrom, runEnd, startsWith, inComment, skipFrom, skipEnd}
-use Rattle.scan.specs.TypeText.{byteEnd, wordEnd, digitsEnd, sizeNext, shapeFrom, shapeEnd, complexEnd}
+use Rattle.scan.specs.TypeText.{byteEnd, wordEnd, digitsEnd, sizeNext, shapeEndFrom, shapeEnd, complexEnd}
 use Rattle.scan.specs.Quantized.{signEnd, integerEnd, fractionEnd, scientificEnd, floatEnd, colonEnd, parameterEnd, moreEnd, parametersEnd, storageEnd, quantizedEnd}
 use Rattle.scan.specs.TensorText.{elementEnd, typeClose}
 use Rattle.text.specs.Lex.{markToken, nameEnd, nameToken, signToken, quoteToken, plainWord, tensorToken, wordToken, lexeme, tokenAt}
@@ -84,5 +84,5 @@ cases =
     []
 
 examples : T (right cases)
-unfolding cases sample broken partOf noParts addedTo noted depthAfter partsFrom partsOf partsAt opAt bodyAt noProgram begun inHeader namesOp beginsOp namingAfter outlined programFrom programOf readings readingsOf readingsFrom kindOf tokenKind markKind nameKind wordKind quotedKind wordIs grammar leafKinds matches cell step isLetter isDigit isSpace isSigil isSign inRun runFrom runEnd startsWith inComment skipFrom skipEnd byteEnd wordEnd digitsEnd sizeNext shapeFrom shapeEnd complexEnd signEnd integerEnd fractionEnd scientificEnd floatEnd colonEnd parameterEnd moreEnd parametersEnd storageEnd quantizedEnd elementEnd typeClose markToken nameEnd nameToken signToken quoteToken plainWord tensorToken wordToken lexeme tokenAt
+unfolding cases sample broken partOf noParts addedTo noted depthAfter partsFrom partsOf partsAt opAt bodyAt noProgram begun inHeader namesOp beginsOp namingAfter outlined programFrom programOf readings readingsOf readingsFrom kindOf tokenKind markKind nameKind wordKind quotedKind wordIs grammar leafKinds matches cell step isLetter isDigit isSpace isSigil isSign inRun runFrom runEnd startsWith inComment skipFrom skipEnd byteEnd wordEnd digitsEnd sizeNext shapeEndFrom shapeEnd complexEnd signEnd integerEnd fractionEnd scientificEnd floatEnd colonEnd parameterEnd moreEnd parametersEnd storageEnd quantizedEnd elementEnd typeClose markToken nameEnd nameToken signToken quoteToken plainWord tensorToken wordToken lexeme tokenAt
 examples = tt

@@ -16,7 +16,7 @@ use Rattle.judge.specs.Judge.{refuse}
 use Rattle.verify.specs.Verify.{verdict}
 use Rattle.evaluation.specs.Evaluated.{Evaluated, answer, evaluated}
 use Rattle.evaluation.proofs.FittedLaw.{refused}
-use Rattle.streams.specs.Cut.{Cut}
+use Rattle.streams.specs.Cut.{CutOff}
 use Rattle.verdict_lines.specs.Lines.{refusedLine, wholeRefusal}
 use Rattle.verdict_lines.proofs.WholeLaw.{long-verdict, nothing-more, all-of-it}
 use Rattle.result_lines.specs.ResultLines.{resultLines}
@@ -30,7 +30,7 @@ zero-accepted text inputs old new r e z = by-verdict (ℕ-discrete (verdict text
     by-verdict (yes h) = h
     by-verdict (no h) = absurd (h (ap (λ (x : Evaluated). x .refusal .number) (refused text inputs old h ∙ sym e) ∙ z))
 
-module _ (text rest : List ℕ) (more : ℕ) (cut : Cut 65537 (length text) more) (counted : length rest ≡ more) (r : Refusal) (store : List ℕ) (e : answer r store ≡ alone text) where
+module _ (text rest : List ℕ) (more : ℕ) (cut : CutOff 65537 (length text) more) (counted : length rest ≡ more) (r : Refusal) (store : List ℕ) (e : answer r store ≡ alone text) where
   -- an accepted text is within the size
   short : r .number ≡ 0 → length text ≤ 65536
   short z = go (ltb 65536 (length text)) (ltb-true 65536 (length text)) (ltb-false 65536 (length text))

@@ -13,7 +13,7 @@ use Rattle.lists.specs.Lists.{pick, All, concat}
 use Rattle.text.specs.declared.Token.{Token}
 use Rattle.shape.specs.Index.{size}
 use Rattle.shape.specs.Dims.{dimsOf}
-use Rattle.grammar.specs.Symbols.{leafCount, OpName, Op, among}
+use Rattle.grammar.specs.Symbols.{leafCount, OpName, Op, amongSymbols}
 use Rattle.grammar.specs.Grammar.{Production}
 use Rattle.grammar.specs.Leaves.{Yields, nothing, itself, right}
 use Rattle.grammar.proofs.TableTest.{both, both-left, both-right, both-make, up-to}
@@ -65,7 +65,7 @@ all-pass f h (right m y) = all-pass f h y
 pass-in : (f : ℕ → Bool) (set ls : List ℕ) → T (allPass f set) → T (allIn set ls) → T (allPass f ls)
 pass-in f set [] t u = tt
 pass-in f set (l ∷ ls) t u =
-    both-make (f l) (allPass f ls) (member-passes f set l t (both-left (among set l) (allIn set ls) u)) (pass-in f set ls t (both-right (among set l) (allIn set ls) u))
+    both-make (f l) (allPass f ls) (member-passes f set l t (both-left (amongSymbols set l) (allIn set ls) u)) (pass-in f set ls t (both-right (amongSymbols set l) (allIn set ls) u))
 
 module _ (text : List ℕ) where
   -- ---- one op

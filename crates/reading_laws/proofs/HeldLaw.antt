@@ -21,8 +21,8 @@ use Rattle.text.specs.declared.Token.{Token}
 use Rattle.shape.specs.Index.{size, volume}
 use Rattle.shape.specs.Dims.{dimsOf}
 use Rattle.types.specs.declared.tensors.TypeRead.{TypeRead}
-use Rattle.types.specs.Tensors.{elementNamed, stretch, dimensionsFrom, countOf as countOfByte, allFit, sizePassed as typeSizePassed, typed, foreign, typeAfter, typeOf}
-use Rattle.grammar.specs.Symbols.{InputType, ResultType, among}
+use Rattle.types.specs.Tensors.{elementNamed, bytesBetween, dimensionsFrom, byteCount as countOfByte, allFit, typeSizePassed, typed, foreign, typeAfter, typeOf}
+use Rattle.grammar.specs.Symbols.{InputType, ResultType, amongSymbols}
 use Rattle.grammar.proofs.TableTest.{both-left, both-right, implies, implied, true-T}
 use Rattle.grammar.proofs.Within.{allPass, member-passes}
 use Rattle.syntax.specs.Readings.{Reading}
@@ -30,8 +30,8 @@ use Rattle.syntax.specs.Roles.{rolesOf}
 use Rattle.dimrules.specs.Count.{sumBelow}
 use Rattle.dimrules.specs.declared.TensorType.{TensorType}
 use Rattle.judge.specs.declared.tally.Tally.{Tally}
-use Rattle.judge.specs.Roles.{among as amongRoles, typeRoles}
-use Rattle.judge.specs.Tally.{counts, elementsAt, afterToken, depthAfter as tallyDepth}
+use Rattle.judge.specs.Roles.{amongRoles, typeRoles}
+use Rattle.judge.specs.Tally.{counts, elementsAt, afterToken, tallyDepth}
 use Rattle.judge.specs.Sizes.{typePassed, passes, sizePassed}
 use Rattle.judge.specs.Judge.{unknown, refusalAt}
 use Rattle.judge.proofs.Theorems.{Each, token-sound}
@@ -67,7 +67,7 @@ unfolding typeOf typeAfter typed foreign
 small-passed text at =
     let end = shapeEnd text (at + 7) in
     let name = elementNamed text end (typeClose text (at + 7)) in
-    let shape = stretch (at + 7) end text in
+    let shape = bytesBetween (at + 7) end text in
     go (startsWith (ascii "tensor<") (drop at text)) (name .known && eqb (countOfByte 63 shape) 0) (typed (name .element) (dimensionsFrom 0 shape)) (small-sizes (dimensionsFrom 0 shape))
   where
     go : (a b : Bool) (t : TypeRead) → t .passed ≤ 2 → pick a (pick b t foreign) foreign .passed ≤ 2
@@ -104,7 +104,7 @@ module _ (text : List ℕ) where
 
   -- the types that size 3 counts outside bodies
   abbrev counted : ℕ → Bool
-  counted r = among (InputType ∷ ResultType ∷ []) r
+  counted r = amongSymbols (InputType ∷ ResultType ∷ []) r
 
   token-counts : (s : Tally) (r : ℕ) (t : Token) → s .depth ≡ 0 → T (counted r) → unknown text r t ≡ false → All (λ b. b ≡ false) (passes text s r t) →
       elementsAt text s r t ≡ elementsIn text (t .start)

@@ -12,7 +12,7 @@ use Rattle.grammar.specs.Symbols.{OpName}
 use Rattle.syntax.specs.Readings.{Reading}
 use Rattle.syntax.specs.Roles.{rolesOf}
 use Rattle.judge.specs.declared.tally.Tally.{Tally}
-use Rattle.judge.specs.Tally.{elementsAt, opsAfter, depthAfter, afterToken}
+use Rattle.judge.specs.Tally.{elementsAt, opsAfter, tallyDepth, afterToken}
 use Rattle.judge.specs.Sizes.{typePassed, manyElements, manyOps, passes, firstPassed, sizePassed}
 use Rattle.judge.proofs.Theorems.{Each, Sound, token-sound}
 use Rattle.program.specs.Parts.{depthAfter as depthAfterRole}
@@ -36,7 +36,7 @@ module _ (text : List ℕ) where
       ((e .0, h .0), h .1)
 
   pub tally-depth : (xs : List Reading) (s : Tally) → tallyAfter text s xs .depth ≡ depthThrough (s .depth) (rolesOf xs)
-  unfolding afterToken depthAfter depthAfterRole
+  unfolding afterToken tallyDepth depthAfterRole
   tally-depth [] s = refl
   tally-depth (x ∷ xs) s = tally-depth xs (afterToken text s (x .role) (x .token))
 

@@ -16,7 +16,7 @@ use Rattle.shape.specs.Index.{at, size, ravel, unravel, IndexOf, elementAt}
 use Rattle.shape.proofs.IndexLaw.{length-tabulate, ravel-lt, index-of-unravel}
 use Rattle.shape.proofs.ElementLaw.{element-within}
 use Rattle.shape.specs.Place.{isIn, countBelow}
-use Rattle.reduction.specs.Rows.{sliceShape, keptShape, inserted, rowAt, rowsOf, ReduceHolds}
+use Rattle.reduction.specs.Rows.{sliceShape, keptShape, inserted, rowForIndex, rowsOf, ReduceHolds}
 use Rattle.reduction.proofs.CollectLaw.{count-lt, count-not, collect-at, length-collect}
 
 -- ---- the fold
@@ -35,16 +35,16 @@ module _ (f : ℕ → ℕ → ℕ) (n : ℕ) (g : ℕ → ℕ) (v q : ℕ) where
 -- ---- the rows
 
 -- a row has as many elements as the product of the dimensions that are reduced
-pub row-size : (dimensions from x j : List ℕ) → length (rowAt dimensions from x j) ≡ size (sliceShape dimensions from)
+pub row-size : (dimensions from x j : List ℕ) → length (rowForIndex dimensions from x j) ≡ size (sliceShape dimensions from)
 row-size dimensions from x j = length-tab (size (sliceShape dimensions from)) _
 
 -- one row for each element of the result
 pub rows-length : (dimensions from to x : List ℕ) → length (rowsOf dimensions from to x) ≡ size to
-rows-length dimensions from to x = length-tabulate to (rowAt dimensions from x)
+rows-length dimensions from to x = length-tabulate to (rowForIndex dimensions from x)
 
 pub row-sizes : (dimensions from to x : List ℕ) → map length (rowsOf dimensions from to x) ≡ tab (size to) (λ k. size (sliceShape dimensions from))
 row-sizes dimensions from to x =
-    map-tab length (size to) (λ k. rowAt dimensions from x (unravel to k))
+    map-tab length (size to) (λ k. rowForIndex dimensions from x (unravel to k))
     ∙ tab-cong (size to) _ (λ k. size (sliceShape dimensions from)) (λ k h. row-size dimensions from x (unravel to k))
 
 -- ---- the operand's index, where C7 holds
@@ -98,5 +98,5 @@ all-folds P f start closed s (xs ∷ rows) a = (go start xs s (a .0), all-folds 
     go v (x ∷ xs) q a = go (f v x) xs (closed v x q (a .0)) (a .1)
 
 -- "Giving a reduction over no elements zero in place of its start value" is ruled out: a row without elements gives the start value
-pub fold-none : (f : ℕ → ℕ → ℕ) (start : ℕ) (dimensions from x j : List ℕ) → size (sliceShape dimensions from) ≡ 0 → fold f start (rowAt dimensions from x j) ≡ start
+pub fold-none : (f : ℕ → ℕ → ℕ) (start : ℕ) (dimensions from x j : List ℕ) → size (sliceShape dimensions from) ≡ 0 → fold f start (rowForIndex dimensions from x j) ≡ start
 fold-none f start dimensions from x j e = ap (λ (n : ℕ). fold f start (tab n (λ q. elementAt x from (tab (length from) (inserted dimensions (at j) (at (unravel (sliceShape dimensions from) q)))) 0))) e

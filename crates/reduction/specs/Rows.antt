@@ -38,12 +38,12 @@ abbrev pub rowOver : List ℕ → List ℕ → List ℕ → List ℕ → (ℕ �
 rowOver dimensions from x inner j = tabulate inner (λ r. elementAt x from (tab (length from) (inserted dimensions j (at r))) 0)
 
 -- the row of the result's element at the index j
-abbrev pub rowAt : List ℕ → List ℕ → List ℕ → List ℕ → List ℕ
-rowAt dimensions from x j = rowOver dimensions from x (sliceShape dimensions from) (at j)
+abbrev pub rowForIndex : List ℕ → List ℕ → List ℕ → List ℕ → List ℕ
+rowForIndex dimensions from x j = rowOver dimensions from x (sliceShape dimensions from) (at j)
 
 -- the rows, one for each element of the result, in canonical order
 abbrev pub rowsOf : List ℕ → List ℕ → List ℕ → List ℕ → List (List ℕ)
-rowsOf dimensions from to x = tabulate to (rowAt dimensions from x)
+rowsOf dimensions from to x = tabulate to (rowForIndex dimensions from x)
 
 -- "Evaluation folds from the start value, once, over elements in ascending order"
 abbrev pub reduced : Body → ElementType → List ℕ → List ℕ → List ℕ → ℕ → List ℕ → List ℕ
@@ -52,7 +52,7 @@ reduced b t dimensions from to start x = map (fold (bodyOf b t) start) (rowsOf d
 -- ---- what is required, and what the constraints grant
 
 -- the operand's stretch x and the result's stretch out are of their shapes, which are within 01's sizes; at most 6 dimensions (size 6)
-pub record Stretches (from to : Shape) (count : ℕ) (x out : List ℕ) : Type 0 where
+pub record ReduceStretches (from to : Shape) (count : ℕ) (x out : List ℕ) : Type 0 where
   pub from-sized : Sized from
   pub to-sized : Sized to
   pub few : count ≤ 6

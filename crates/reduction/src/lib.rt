@@ -8,7 +8,7 @@ ghost use Rattle.scalar.specs.Body.{bodyOf};
 ghost use Rattle.shape.specs.Index.{at, size, unravel, elementAt, inSix};
 ghost use Rattle.shape.specs.Dims.{dimsOf, shapeFrom, Sized, Fills};
 ghost use Rattle.shape.specs.Place.{isIn};
-ghost use Rattle.reduction.specs.Rows.{inserted, rowOver, rowAt, sliceShape, reduced, Stretches};
+ghost use Rattle.reduction.specs.Rows.{inserted, rowOver, rowForIndex, sliceShape, reduced, ReduceStretches};
 use element::ElementType;
 use limits::Limits;
 use scalar::Body;
@@ -132,7 +132,7 @@ fn reduced_at(
     k: usize,
 ) -> u64
     requires { ⌜ Sized from × Sized to × Fills (now x) from × (count ≤ 6) × (k < size (dimsOf to)) ⌝ }
-    ensures { λ r. ⌜ r ≡ fold (bodyOf b t) start (rowAt (take count dimensions) (dimsOf from) (now (x .entry)) (unravel (dimsOf to) k)) ⌝ }
+    ensures { λ r. ⌜ r ≡ fold (bodyOf b t) start (rowForIndex (take count dimensions) (dimsOf from) (now (x .entry)) (unravel (dimsOf to) k)) ⌝ }
 {
     let inner = slice_shape(from, dimensions, count);
     let j = shape::index_at(to, k);
@@ -150,7 +150,7 @@ pub fn reduce(
     to: Shape,
     out: &mut [u64],
 )
-    requires { ⌜ Stretches from to count (now x) (now out) ⌝ }
+    requires { ⌜ ReduceStretches from to count (now x) (now out) ⌝ }
     ensures { λ _. ⌜ now (out .exit) ≡ reduced b t (take count dimensions) (dimsOf from) (dimsOf to) start (now (x .entry)) ⌝ }
 {
     let n = out.len();

@@ -17,7 +17,7 @@ use Rattle.operands.specs.Operands.{arityOf}
 use Rattle.verify.specs.Verify.{verdict}
 use Rattle.nodes.proofs.AcceptedLaw.{accepted-elements, returns-defined}
 use Rattle.laid.specs.Laid.{Laid, laid, written}
-use Rattle.results.specs.Results.{resultAt, lineOf, firstLines}
+use Rattle.results.specs.Results.{lineAt, lineOf, firstLines}
 use Rattle.results.proofs.ResultsLaw.{lines-none, lines-next, lines-all, line-small, front-length, front-end, written-next}
 use Rattle.result_lines.specs.ResultLines.{returnOf, resultLines}
 
@@ -34,8 +34,8 @@ module _ (text : List ℕ) (p : Program) (vs : Values) (e : p ≡ programOf text
     few-slots = rw (f, e) (accepted-elements text h)
 
     -- each result is one of the values
-    pub result-before : (op : Parts) → op ≡ opAt text (getD (p .ops) (opsOf p) 0) → (j : ℕ) → j < arityOf op → resultAt text op vs (vs .count) j < vs .count
-    unfolding resultAt
+    pub result-before : (op : Parts) → op ≡ opAt text (getD (p .ops) (opsOf p) 0) → (j : ℕ) → j < arityOf op → lineAt text op vs (vs .count) j < vs .count
+    unfolding lineAt
     result-before op o j l =
         rw (o, f, ← values-counted text p, e) (returns-defined text h j (rw (o, e) at l) .0)
 
@@ -56,7 +56,7 @@ module _ (text : List ℕ) (op : Parts) (vs : Values) (slots : List ℕ) (old : 
     pub room-left : place + 200001 ≤ length out
     room-left = omega (arith, p .short, before, front-length (firstLines text op vs (vs .count) slots j) place out old (p .lines) (omega (arith, before)))
 
-    pub one-printed : (i r : ℕ) (new : List ℕ) → ValuesRead vs → i < 264 → i ≡ resultAt text op vs (vs .count) j → laid r new ≡ written (lineOf vs slots i) place out → Printed text op vs slots (j + 1) r new old
+    pub one-printed : (i r : ℕ) (new : List ℕ) → ValuesRead vs → i < 264 → i ≡ lineAt text op vs (vs .count) j → laid r new ≡ written (lineOf vs slots i) place out → Printed text op vs slots (j + 1) r new old
     one-printed i r new read h e l =
         let small = line-small vs slots i read h in
         let xs = firstLines text op vs (vs .count) slots j in

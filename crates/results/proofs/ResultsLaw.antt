@@ -20,7 +20,7 @@ use Rattle.values.specs.declared.Values.{Values}
 use Rattle.values.specs.Values.{noValue}
 use Rattle.offsets.specs.Offsets.{ValuesRead, sizeAt, offsetAt}
 use Rattle.operands.specs.Operands.{arityOf}
-use Rattle.results.specs.Results.{resultAt, denseOf, lineOf, firstLines, linesOf}
+use Rattle.results.specs.Results.{lineAt, denseOf, lineOf, firstLines, linesOf}
 
 concat-next : (j : ℕ) (f : ℕ → List ℕ) → concat (tab (suc j) f) ≡ concat (tab j f) ++ f j
 unfolding concat
@@ -35,8 +35,8 @@ module _ (text : List ℕ) (op : Parts) (vs : Values) (n : ℕ) (slots : List �
   lines-none = refl
 
   -- a turn of the loop that prints them
-  pub lines-next : (j : ℕ) → firstLines text op vs n slots (j + 1) ≡ firstLines text op vs n slots j ++ lineOf vs slots (resultAt text op vs n j)
-  lines-next j = rw add-one (concat-next j (λ k. lineOf vs slots (resultAt text op vs n k)))
+  pub lines-next : (j : ℕ) → firstLines text op vs n slots (j + 1) ≡ firstLines text op vs n slots j ++ lineOf vs slots (lineAt text op vs n j)
+  lines-next j = rw add-one (concat-next j (λ k. lineOf vs slots (lineAt text op vs n k)))
 
   pub lines-all : firstLines text op vs n slots (arityOf op) ≡ linesOf text op vs n slots
   unfolding linesOf

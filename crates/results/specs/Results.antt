@@ -14,8 +14,8 @@ use Rattle.operands.specs.Operands.{valueNamed, arityOf}
 use Rattle.layout.specs.Layout.{valueIn}
 
 -- "Results are what the return names" (01, "Free runs"): the number of the value that it names at place j, where n values are defined before it
-unfoldable pub resultAt : List ℕ → Parts → Values → ℕ → ℕ → ℕ
-resultAt text op vs n j = valueNamed text (vs .list) n (placeOf op operandName j)
+unfoldable pub lineAt : List ℕ → Parts → Values → ℕ → ℕ → ℕ
+lineAt text op vs n j = valueNamed text (vs .list) n (placeOf op operandName j)
 
 -- value i as a dense value with its type: `dense<[1725]> : tensor<1xui16>`
 abbrev pub denseOf : Values → List ℕ → ℕ → List ℕ
@@ -27,7 +27,7 @@ lineOf vs slots i = denseOf vs slots i ++ (10 ∷ [])
 
 -- the lines of the first j results
 abbrev pub firstLines : List ℕ → Parts → Values → ℕ → List ℕ → ℕ → List ℕ
-firstLines text op vs n slots j = concat (tab j (λ k. lineOf vs slots (resultAt text op vs n k)))
+firstLines text op vs n slots j = concat (tab j (λ k. lineOf vs slots (lineAt text op vs n k)))
 
 -- "prints one line per result"
 unfoldable pub linesOf : List ℕ → Parts → Values → ℕ → List ℕ → List ℕ

@@ -12,7 +12,7 @@ ghost use Prim.Native.Nat.{_+_, _<_, _≤_};
 ghost use lib.ListN.{length};
 ghost use Rattle.laid.specs.Laid.{laid, written};
 ghost use Rattle.offsets.specs.Offsets.{ValuesRead, sizeAt, offsetAt};
-ghost use Rattle.results.specs.Results.{resultAt, lineOf};
+ghost use Rattle.results.specs.Results.{lineAt, lineOf};
 
 // How many bytes a line has at most: the 200,000 of a value, and the line end.
 pub struct Line {}
@@ -46,7 +46,7 @@ pub fn print_value(
 // The number of the value that result j names: `op` is the return, before which n values are defined.
 pub fn result_number(text: &[u8], op: Parts, vs: Values, n: usize, j: usize) -> usize
     requires { ⌜ (n ≤ 264) × (j < 8) ⌝ }
-    ensures { λ r. ⌜ r ≡ resultAt (now (text .entry)) op vs n j ⌝ }
+    ensures { λ r. ⌜ r ≡ lineAt (now (text .entry)) op vs n j ⌝ }
 {
     value_named(text, vs, n, place_of(op, Part::OPERAND_NAME, j))
 }

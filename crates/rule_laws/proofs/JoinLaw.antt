@@ -18,7 +18,7 @@ use Rattle.lists.proofs.TabLaw.{tab-cong, length-tab, getD-tab}
 use Rattle.dimrules.specs.Count.{everywhere, sumBelow}
 use Rattle.dimrules.specs.Whole.{numberOf, eqZ, below}
 use Rattle.dimrules.specs.Dims.{dim, dimTest}
-use Rattle.dimrules.specs.Types.{noType, typeAt, sameElement, sameButOne, shapesOf, typeTest, operandTest, allTypes, sumOfDims}
+use Rattle.dimrules.specs.Types.{noType, typeAt, sameElement, sameButOne, shapesBeside, typeTest, operandTest, allTypes, sumOfDims}
 use Rattle.dimrules.specs.declared.TensorType.{TensorType}
 use Rattle.dimrules.specs.declared.DimTest.the-variants.{SameExcept}
 use Rattle.dimrules.specs.declared.TypeTest.the-variants.{SameElement, SameButOne}
@@ -82,7 +82,7 @@ module _ (x y : TensorType) (w : ℕ) where
   rest = many (putAt (shape x) (numberOf w) (is (pos 0))) [=] many (putAt (shape y) (numberOf w) (is (pos 0)))
 
   abbrev old : ℕ → Bool
-  old = dimTest SameExcept (shapesOf x y w)
+  old = dimTest SameExcept (shapesBeside x y w)
 
   place-same : (d : ℕ) → numberOf w ≡ pos w → d < rank x → d < rank y →
       compares (putAt (shape x) (numberOf w) (is (pos 0)) .term d) Equal (putAt (shape y) (numberOf w) (is (pos 0)) .term d) ≡ old d
@@ -209,7 +209,7 @@ module _ (types : List TensorType) (arity w : ℕ) (r : TensorType) where
       T = sumBelow arity (λ j. dim (typeAt types j .shape) w)
 
       old' : ℕ → Bool
-      old' = dimTest SameExcept (shapesOf x r w)
+      old' = dimTest SameExcept (shapesBeside x r w)
 
       formula : ℕ → Term
       formula d = pick (eqZ (pos d) (numberOf w)) (sumDims inputs (numberOf w)) (shape x ! d)
@@ -220,8 +220,8 @@ module _ (types : List TensorType) (arity w : ℕ) (r : TensorType) where
       inside : (j : ℕ) → j < arity → w < rank (typeAt types j)
       inside j h =
           let z : 0 + j ≡ j = omega arith in
-          let t : (eqb (rank x) (rank (typeAt types (0 + j))) && below w (rank x) && everywhere (rank x) (dimTest SameExcept (shapesOf x (typeAt types (0 + j)) w))) ≡ true = holds-at arity (operandTest SameButOne w x types 0) a j h in
-          let u = both-true (eqb (rank x) (rank (typeAt types (0 + j))) && below w (rank x)) (everywhere (rank x) (dimTest SameExcept (shapesOf x (typeAt types (0 + j)) w))) t in
+          let t : (eqb (rank x) (rank (typeAt types (0 + j))) && below w (rank x) && everywhere (rank x) (dimTest SameExcept (shapesBeside x (typeAt types (0 + j)) w))) ≡ true = holds-at arity (operandTest SameButOne w x types 0) a j h in
+          let u = both-true (eqb (rank x) (rank (typeAt types (0 + j))) && below w (rank x)) (everywhere (rank x) (dimTest SameExcept (shapesBeside x (typeAt types (0 + j)) w))) t in
           let v = both-true (eqb (rank x) (rank (typeAt types (0 + j)))) (below w (rank x)) (u .0) in
           let y : rank x ≡ rank (typeAt types j) = eqb-true (rank x) (rank (typeAt types (0 + j))) (v .0) ∙ ap (λ (i : ℕ). rank (typeAt types i)) z in
           subst (λ (n : ℕ). w < n) y (p .1)

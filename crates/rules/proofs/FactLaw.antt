@@ -19,7 +19,7 @@ use Rattle.dimrules.specs.Count.{everywhere}
 use Rattle.dimrules.specs.Whole.{numberOf, upOf, downOf, eqZ, ceilDiv, below, inOrder, positive, ceilingIs, paddedIs}
 use Rattle.shape.specs.Place.{isIn}
 use Rattle.dimrules.specs.Dims.{listOf, dim, num, isFirst, keptBelow, keptIs, dimTest}
-use Rattle.dimrules.specs.Types.{sameElement, sameShape, sameType, sameButOne, shapesOf, typeTest, typeAt, operandTest, allTypes, sumOfDims}
+use Rattle.dimrules.specs.Types.{sameElement, sameShape, sameType, sameButOne, shapesBeside, typeTest, typeAt, operandTest, allTypes, sumOfDims}
 use Rattle.dimrules.specs.declared.TensorType.{TensorType}
 use Rattle.dimrules.specs.declared.Numbers.{Numbers}
 use Rattle.dimrules.specs.declared.Sides.{Sides}
@@ -30,7 +30,7 @@ use Rattle.dimrules.proofs.CountLaw.{holds-at}
 use Rattle.dimrules.proofs.WholeLaw.{pad-sums}
 use Rattle.rule_laws.specs.Broken.{firstBroken, sidesOf}
 use Rattle.rule_laws.proofs.Tests.{sameTypesTests, absTests, constantTests, convertTests, iotaTests, reshapeTests, compareTests, selectTests, clampTests, reverseTests, transposeTests, broadcastTests, sliceTests, padTests, concatenateTests, dynamicSliceTests, reduceTests}
-use Rattle.rules.specs.Facts.{AlikeShapes, AlikeTypes, DimensionsBelow, SameTypesHolds, CompareHolds, SelectHolds, ClampHolds, ReshapeHolds, ReverseHolds, TransposeHolds, BroadcastHolds, SliceHolds, PadHolds, ConcatenateHolds, DynamicSliceHolds, ReduceHolds}
+use Rattle.rules.specs.Facts.{AlikeShapes, AlikeTypes, DimensionsBelow, SameTypesHolds, CompareHolds, SelectHolds, ClampHolds, ReshapeGranted, ReverseHolds, TransposeGranted, BroadcastGranted, SliceGranted, PadGranted, ConcatenateGranted, DynamicSliceGranted, ReduceGranted}
 use Rattle.checks.proofs.MeaningLaw.{or-true}
 use Rattle.checks.proofs.TypeLaw.{same-element}
 use Rattle.rules.proofs.BrokenLaw.{holds}
@@ -44,10 +44,10 @@ either-way f g (inr b) = inr (g b)
 pub same-shape : (x y : TensorType) → sameShape x y ≡ true → AlikeShapes (x .shape) (y .shape)
 unfolding sameShape dimTest
 same-shape x y e =
-    let h = both-true (eqb (x .shape .rank) (y .shape .rank)) (everywhere (x .shape .rank) (dimTest Same (shapesOf x y 0))) e in
+    let h = both-true (eqb (x .shape .rank) (y .shape .rank)) (everywhere (x .shape .rank) (dimTest Same (shapesBeside x y 0))) e in
     record {
       rank = eqb-true (x .shape .rank) (y .shape .rank) (h .0);
-      dims = λ d l. eqb-true (dim (x .shape) d) (dim (y .shape) d) (holds-at (x .shape .rank) (dimTest Same (shapesOf x y 0)) (h .1) d l);
+      dims = λ d l. eqb-true (dim (x .shape) d) (dim (y .shape) d) (holds-at (x .shape .rank) (dimTest Same (shapesBeside x y 0)) (h .1) d l);
     }
 
 pub same-type : (x y : TensorType) → sameType x y ≡ true → AlikeTypes x y
@@ -154,7 +154,7 @@ pub iota-law : (dimension : ℕ) (r : TensorType) → firstBroken (iotaTests dim
 unfolding iotaTests
 iota-law dimension r e = below-true dimension (r .shape .rank) (holds (iotaTests dimension r) e .0)
 
-pub reshape-law : (x r : TensorType) → firstBroken (reshapeTests x r) ≡ 0 → ReshapeHolds x r
+pub reshape-law : (x r : TensorType) → firstBroken (reshapeTests x r) ≡ 0 → ReshapeGranted x r
 unfolding reshapeTests
 reshape-law x r e =
     let h = holds (reshapeTests x r) e in
@@ -197,7 +197,7 @@ reverse-law x dimensions r e =
     let s = sidesOf x r (r .shape .rank) dimensions dimensions dimensions in
     record { types = same-type x r (h .0); listed = listed-below s (dimensions .count) (r .shape .rank) refl (h .1 .1 .0) (h .1 .0) }
 
-pub transpose-law : (x : TensorType) (permutation : Numbers) (r : TensorType) → firstBroken (transposeTests x permutation r) ≡ 0 → TransposeHolds x permutation r
+pub transpose-law : (x : TensorType) (permutation : Numbers) (r : TensorType) → firstBroken (transposeTests x permutation r) ≡ 0 → TransposeGranted x permutation r
 unfolding transposeTests dimTest
 transpose-law x permutation r e =
     let h = holds (transposeTests x permutation r) e in
@@ -214,7 +214,7 @@ transpose-law x permutation r e =
       sizes = λ d l. eqb-true (dim (r .shape) d) (dim (x .shape) (num permutation d)) (holds-at n (dimTest Moved s) (w .1) d l);
     }
 
-pub broadcast-law : (x : TensorType) (dimensions : Numbers) (r : TensorType) → firstBroken (broadcastTests x dimensions r) ≡ 0 → BroadcastHolds x dimensions r
+pub broadcast-law : (x : TensorType) (dimensions : Numbers) (r : TensorType) → firstBroken (broadcastTests x dimensions r) ≡ 0 → BroadcastGranted x dimensions r
 unfolding broadcastTests dimTest
 broadcast-law x dimensions r e =
     let h = holds (broadcastTests x dimensions r) e in
@@ -235,7 +235,7 @@ counts a b c n e =
     let g = both-true (eqb (a .count) n) (eqb (b .count) n) (h .0) in
     (eqb-true (a .count) n (g .0), eqb-true (b .count) n (g .1), eqb-true (c .count) n (h .1))
 
-pub slice-law : (x : TensorType) (start limit strides : Numbers) (r : TensorType) → firstBroken (sliceTests x start limit strides r) ≡ 0 → SliceHolds x start limit strides r
+pub slice-law : (x : TensorType) (start limit strides : Numbers) (r : TensorType) → firstBroken (sliceTests x start limit strides r) ≡ 0 → SliceGranted x start limit strides r
 unfolding sliceTests dimTest
 slice-law x start limit strides r e =
     let h = holds (sliceTests x start limit strides r) e in
@@ -252,7 +252,7 @@ slice-law x start limit strides r e =
       sizes = λ d l. ceiling-true (num start d) (num limit d) (num strides d) (dim (r .shape) d) (holds-at n (dimTest Ceiling s) (w .1) d l);
     }
 
-pub pad-law : (x v : TensorType) (low high interior : Numbers) (r : TensorType) → firstBroken (padTests x v low high interior r) ≡ 0 → PadHolds x v low high interior r
+pub pad-law : (x v : TensorType) (low high interior : Numbers) (r : TensorType) → firstBroken (padTests x v low high interior r) ≡ 0 → PadGranted x v low high interior r
 unfolding padTests dimTest
 pad-law x v low high interior r e =
     let h = holds (padTests x v low high interior r) e in
@@ -279,7 +279,7 @@ same-but-one : (x y : TensorType) (k : ℕ) → sameButOne x y k ≡ true → Al
 unfolding sameButOne dimTest
 same-but-one x y k e =
     let n = x .shape .rank in
-    let t = dimTest SameExcept (shapesOf x y k) in
+    let t = dimTest SameExcept (shapesBeside x y k) in
     let h = both-true (eqb n (y .shape .rank) && below k n) (everywhere n t) e in
     let g = both-true (eqb n (y .shape .rank)) (below k n) (h .0) in
     record {
@@ -293,7 +293,7 @@ same-but-one x y k e =
     other d f (inr q) = eqb-true (dim (x .shape) d) (dim (y .shape) d) q
 
 pub concatenate-law : (types : List TensorType) (arity dimension : ℕ) (r : TensorType) → firstBroken (concatenateTests types arity dimension r) ≡ 0 →
-    ConcatenateHolds types arity dimension r
+    ConcatenateGranted types arity dimension r
 unfolding concatenateTests allTypes typeTest
 concatenate-law types arity dimension r e =
     let h = holds (concatenateTests types arity dimension r) e in
@@ -319,7 +319,7 @@ concatenate-law types arity dimension r e =
     input q j l = same-but-one (typeAt types 0) (typeAt types j) dimension (at-place SameButOne dimension q j l)
 
 pub dynamic-slice-law : (types : List TensorType) (arity : ℕ) (sizes : Numbers) (r : TensorType) → firstBroken (dynamicSliceTests types arity sizes r) ≡ 0 →
-    DynamicSliceHolds types arity sizes r
+    DynamicSliceGranted types arity sizes r
 unfolding dynamicSliceTests dimTest allTypes typeTest
 dynamic-slice-law types arity sizes r e =
     let h = holds (dynamicSliceTests types arity sizes r) e in
@@ -339,7 +339,7 @@ dynamic-slice-law types arity sizes r e =
     }
 
 pub reduce-law : (x v a b : TensorType) (dimensions : Numbers) (r : TensorType) → firstBroken (reduceTests x v a b dimensions r) ≡ 0 →
-    ReduceHolds x v a b dimensions r
+    ReduceGranted x v a b dimensions r
 unfolding reduceTests dimTest keptIs
 reduce-law x v a b dimensions r e =
     let h = holds (reduceTests x v a b dimensions r) e in

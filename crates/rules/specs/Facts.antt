@@ -50,7 +50,7 @@ pub record ClampHolds (min x max r : TensorType) : Type 0 where
   pub above : x .element ≡ max .element
   pub result : AlikeTypes x r
 
-pub record ReshapeHolds (x r : TensorType) : Type 0 where
+pub record ReshapeGranted (x r : TensorType) : Type 0 where
   pub element : x .element ≡ r .element
   pub sizes : size (dimsOf (x .shape)) ≡ size (dimsOf (r .shape))
 
@@ -58,20 +58,20 @@ pub record ReverseHolds (x : TensorType) (dimensions : Numbers) (r : TensorType)
   pub types : AlikeTypes x r
   pub listed : DimensionsBelow dimensions (dimensions .count) (r .shape .rank)
 
-pub record TransposeHolds (x : TensorType) (permutation : Numbers) (r : TensorType) : Type 0 where
+pub record TransposeGranted (x : TensorType) (permutation : Numbers) (r : TensorType) : Type 0 where
   pub element : x .element ≡ r .element
   pub count : permutation .count ≡ x .shape .rank
   pub listed : DimensionsBelow permutation (x .shape .rank) (x .shape .rank)
   pub rank : r .shape .rank ≡ x .shape .rank
   pub sizes : (d : ℕ) → d < x .shape .rank → dim (r .shape) d ≡ dim (x .shape) (num permutation d)
 
-pub record BroadcastHolds (x : TensorType) (dimensions : Numbers) (r : TensorType) : Type 0 where
+pub record BroadcastGranted (x : TensorType) (dimensions : Numbers) (r : TensorType) : Type 0 where
   pub element : x .element ≡ r .element
   pub count : dimensions .count ≡ x .shape .rank
   pub listed : DimensionsBelow dimensions (dimensions .count) (r .shape .rank)
   pub sizes : (d : ℕ) → d < x .shape .rank → (dim (x .shape) d ≡ 1) ⊎ (dim (x .shape) d ≡ dim (r .shape) (num dimensions d))
 
-pub record SliceHolds (x : TensorType) (start limit strides : Numbers) (r : TensorType) : Type 0 where
+pub record SliceGranted (x : TensorType) (start limit strides : Numbers) (r : TensorType) : Type 0 where
   pub element : x .element ≡ r .element
   pub counts : (start .count ≡ x .shape .rank) × (limit .count ≡ x .shape .rank) × (strides .count ≡ x .shape .rank)
   pub rank : r .shape .rank ≡ x .shape .rank
@@ -80,7 +80,7 @@ pub record SliceHolds (x : TensorType) (start limit strides : Numbers) (r : Tens
   pub small : (d : ℕ) → d < x .shape .rank → num strides d < 2 ^ 63
   pub sizes : (d : ℕ) → d < x .shape .rank → dim (r .shape) d ≡ ceilDiv (num limit d - num start d) (num strides d)
 
-pub record PadHolds (x paddingValue : TensorType) (low high interior : Numbers) (r : TensorType) : Type 0 where
+pub record PadGranted (x paddingValue : TensorType) (low high interior : Numbers) (r : TensorType) : Type 0 where
   pub start : x .element ≡ paddingValue .element
   pub element : x .element ≡ r .element
   pub counts : (low .count ≡ x .shape .rank) × (high .count ≡ x .shape .rank) × (interior .count ≡ x .shape .rank)
@@ -90,7 +90,7 @@ pub record PadHolds (x paddingValue : TensorType) (low high interior : Numbers) 
       dim (r .shape) d + downOf (numberOf (num low d)) + downOf (numberOf (num high d))
       ≡ dim (x .shape) d + upOf (numberOf (num low d)) + (dim (x .shape) d - 1) * num interior d + upOf (numberOf (num high d))
 
-pub record ConcatenateHolds (types : List TensorType) (arity dimension : ℕ) (r : TensorType) : Type 0 where
+pub record ConcatenateGranted (types : List TensorType) (arity dimension : ℕ) (r : TensorType) : Type 0 where
   pub some : 0 < arity
   pub along : dimension < r .shape .rank
   pub elements : (j : ℕ) → j < arity → r .element ≡ typeAt types j .element
@@ -98,7 +98,7 @@ pub record ConcatenateHolds (types : List TensorType) (arity dimension : ℕ) (r
   pub others : (j : ℕ) → j < arity → (d : ℕ) → d < r .shape .rank → (d ≡ dimension → ⊥) → dim (typeAt types j .shape) d ≡ dim (r .shape) d
   pub total : dim (r .shape) dimension ≡ sumOfDims types arity dimension
 
-pub record DynamicSliceHolds (types : List TensorType) (arity : ℕ) (sizes : Numbers) (r : TensorType) : Type 0 where
+pub record DynamicSliceGranted (types : List TensorType) (arity : ℕ) (sizes : Numbers) (r : TensorType) : Type 0 where
   pub element : typeAt types 0 .element ≡ r .element
   pub starts : arity - 1 ≡ typeAt types 0 .shape .rank
   pub count : sizes .count ≡ typeAt types 0 .shape .rank
@@ -107,7 +107,7 @@ pub record DynamicSliceHolds (types : List TensorType) (arity : ℕ) (sizes : Nu
   pub rank : r .shape .rank ≡ typeAt types 0 .shape .rank
   pub shape : (d : ℕ) → d < typeAt types 0 .shape .rank → dim (r .shape) d ≡ num sizes d
 
-pub record ReduceHolds (x v a b : TensorType) (dimensions : Numbers) (r : TensorType) : Type 0 where
+pub record ReduceGranted (x v a b : TensorType) (dimensions : Numbers) (r : TensorType) : Type 0 where
   pub start : x .element ≡ v .element
   pub listed : DimensionsBelow dimensions (dimensions .count) (x .shape .rank)
   pub left : (x .element ≡ a .element) × (a .shape .rank ≡ 0)

@@ -13,7 +13,7 @@ use Rattle.lists.proofs.TabLaw.{length-tab}
 use Rattle.run.specs.Tree.{MonoidOn}
 use Rattle.run.specs.Run.{Out, gives, stops, results, stopped, ended, met, count, Scoped, Claim}
 use Rattle.run.specs.Ways.{evaluation, freeRun, languageOf, OrderOf, TreesAllowed, OrderFree, AllFit, Gathers, Premises, byFold}
-use Rattle.run.specs.Example.{Tensor, leading, nothing, Op, constant, divide, first, operandsOf, wayOf, rowsOf, quotients, numbers, halves, order, trees, twice}
+use Rattle.run.specs.Example.{SmallTensor, leading, nothing, SmallOp, constant, divide, first, smallOperands, smallWay, smallRows, quotients, numbers, halves, order, trees, twice}
 use Rattle.run.proofs.TableLaw.{count-other}
 use Rattle.run.proofs.WaysLaw.{order-free}
 
@@ -54,7 +54,7 @@ allowed (suc (suc zero)) h i q = absurd (omega arith)
 allowed (suc (suc (suc (suc k)))) h i q = absurd (omega arith)
 
 -- what each value can be
-abbrev Fits : ℕ → Tensor → Type 0
+abbrev Fits : ℕ → SmallTensor → Type 0
 Fits zero v = length v ≡ 3
 Fits (suc zero) v = v ≡ nothing ∷ []
 Fits (suc (suc zero)) v = length v ≡ 3
@@ -82,7 +82,7 @@ leading-monoid =
       assoc = λ a b c p q r. leading-assoc a b c;
     }
 
-quotients-length : (n : ℕ) (x y v : Tensor) → quotients n x y ≡ gives v → length v ≡ n
+quotients-length : (n : ℕ) (x y v : SmallTensor) → quotients n x y ≡ gives v → length v ≡ n
 quotients-length n x y v = go (ltb (firstWhere (λ d. eqb d 0) y) n)
   where
     go : (b : Bool) → pick b (stops (firstWhere (λ d. eqb d 0) y)) (gives (tab n (λ i. getD x i 0 / getD y i 0))) ≡ gives v → length v ≡ n
@@ -94,13 +94,13 @@ any [] = tt
 any (x ∷ xs) = (tt, any xs)
 
 -- what each op owes
-abbrev Gives : ℕ → Op → Type 0
-Gives k o = (args : List Tensor) → AllFit Fits (operandsOf o) args → (v : Tensor) → byFold numbers (wayOf o args) ≡ gives v → Fits (1 + k) v
+abbrev Gives : ℕ → SmallOp → Type 0
+Gives k o = (args : List SmallTensor) → AllFit Fits (smallOperands o) args → (v : SmallTensor) → byFold numbers (smallWay o args) ≡ gives v → Fits (1 + k) v
 
-abbrev Gathered : Op → Type 0
-Gathered o = (args : List Tensor) → AllFit Fits (operandsOf o) args → Gathers Any (rowsOf o) (wayOf o args)
+abbrev Gathered : SmallOp → Type 0
+Gathered o = (args : List SmallTensor) → AllFit Fits (smallOperands o) args → Gathers Any (smallRows o) (smallWay o args)
 
-constant-gives : (xs : Tensor) (args : List Tensor) (v : Tensor) → byFold numbers (wayOf (constant xs) args) ≡ gives v → v ≡ xs
+constant-gives : (xs : SmallTensor) (args : List SmallTensor) (v : SmallTensor) → byFold numbers (smallWay (constant xs) args) ≡ gives v → v ≡ xs
 constant-gives xs args v e = let z : xs ≡ v = cc in sym z
 
 leading-gathered : Gathered (first 3 3 1)
@@ -109,20 +109,20 @@ leading-gathered [] f = absurd f
 leading-gathered (x ∷ []) f = absurd (f .1)
 leading-gathered (x ∷ s ∷ y ∷ r) f = absurd (f .1 .1)
 
-gives-all : (k : ℕ) (o : Op) → getElem? (halves .ops) k ≡ some o → Gives k o
+gives-all : (k : ℕ) (o : SmallOp) → getElem? (halves .ops) k ≡ some o → Gives k o
 gives-all zero o e =
     let z : constant (nothing ∷ []) ≡ o = cc in
     subst (Gives 0) z (λ args f v r. constant-gives (nothing ∷ []) args v r)
 gives-all (suc zero) o e =
     let z : constant (2 ∷ 2 ∷ 2 ∷ []) ≡ o = cc in
-    subst (Gives 1) z (λ args f v r. ap (λ (l : Tensor). length l) (constant-gives (2 ∷ 2 ∷ 2 ∷ []) args v r))
+    subst (Gives 1) z (λ args f v r. ap (λ (l : SmallTensor). length l) (constant-gives (2 ∷ 2 ∷ 2 ∷ []) args v r))
 gives-all (suc (suc zero)) o e =
     let z : divide 3 0 2 ≡ o = cc in
     subst (Gives 2) z (λ args f v r. quotients-length 3 (getD args 0 []) (getD args 1 []) v r)
 gives-all (suc (suc (suc zero))) o e = λ args f v r. tt
 gives-all (suc (suc (suc (suc k)))) o e = absurd (let z : _≡_ {A = ℕ} 0 1 = cc in omega arith)
 
-gathers-all : (k : ℕ) (o : Op) → getElem? (halves .ops) k ≡ some o → Gathered o
+gathers-all : (k : ℕ) (o : SmallOp) → getElem? (halves .ops) k ≡ some o → Gathered o
 gathers-all zero o e = let z : constant (nothing ∷ []) ≡ o = cc in subst Gathered z (λ args f. tt)
 gathers-all (suc zero) o e = let z : constant (2 ∷ 2 ∷ 2 ∷ []) ≡ o = cc in subst Gathered z (λ args f. tt)
 gathers-all (suc (suc zero)) o e = let z : divide 3 0 2 ≡ o = cc in subst Gathered z (λ args f. tt)
@@ -148,11 +148,11 @@ premises =
     }
 
 -- the theorem, of every input of three numbers
-pub halves-free : (x : Tensor) → length x ≡ 3 → OrderFree numbers halves (x ∷ []) 0
+pub halves-free : (x : SmallTensor) → length x ≡ 3 → OrderFree numbers halves (x ∷ []) 0
 halves-free x h = order-free numbers halves Fits (λ o. Any) premises (x ∷ []) (h, tt) 0
 
 -- and of the order and the trees above
-pub halves-ran : (x : Tensor) → length x ≡ 3 → Claim (languageOf numbers) (4 ∷ []) (evaluation numbers halves (x ∷ []) 0) (freeRun numbers halves (x ∷ []) order trees 0)
+pub halves-ran : (x : SmallTensor) → length x ≡ 3 → Claim (languageOf numbers) (4 ∷ []) (evaluation numbers halves (x ∷ []) 0) (freeRun numbers halves (x ∷ []) order trees 0)
 halves-ran x h = halves-free x h order is-order trees allowed
 
 -- Computed ----------------------------------------------------------------------------------------------------------------

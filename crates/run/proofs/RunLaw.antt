@@ -12,7 +12,7 @@ use lib.ListN.{length, getD, set, getElem?, length-set}
 use lib.Seq.{getD-set-same, getD-set-other, ext-getD}
 use Rattle.lists.specs.Lists.{All}
 use Rattle.lists.proofs.AllLaw.{all-map}
-use Rattle.run.specs.Run.{Out, gives, stops, Language, Step, onOut, End, ended, met, stuck}
+use Rattle.run.specs.Run.{Out, gives, stops, Language, Step, onOut, RunEnd, ended, met, stuck}
 use Rattle.run.specs.Run.{resultAt, readAll, onOption, count, run, OperandsFirst}
 use Rattle.run.specs.Ways.{AllFit}
 use Rattle.run.proofs.TableLaw.{Within, within-set, set-within, read-within, There, read-there, TableFits, read-fits, spend, spend-set, spend-le, count-head, count-move, count-tail, count-other}
@@ -104,7 +104,7 @@ pub record Made (L : Language) (m : ℕ) (ops : List (L .Op)) (e : List (Option 
   pub held : getD e (resultAt m k) none ≡ some value
 
 -- the run ended, or an op stopped it
-abbrev pub Moving : {A B : Type 0} → End A B → Type 0
+abbrev pub Moving : {A B : Type 0} → RunEnd A B → Type 0
 Moving {A} {B} x = ((e : List (Option A)) × (x ≡ ended e)) ⊎ ((t : List (Option A)) × (j : ℕ) × (w : B) × (x ≡ met t j w))
 
 op-at : {A : Type 0} (l : List A) (k : ℕ) → k < length l → (a : A) × (getElem? l k ≡ some a)
@@ -126,7 +126,7 @@ took : (L : Language) (m : ℕ) (ops : List (L .Op)) (step : ℕ → Step L) (k 
     → run L m ops step (k ∷ ks) t b ≡ ended e → Took L m ops step k ks t e b
 took L m ops step k ks t e b = with-op (getElem? ops k) refl
   where
-    after : L .Value → End (L .Value) (L .Stop)
+    after : L .Value → RunEnd (L .Value) (L .Stop)
     after v = run L m ops step ks (set t (resultAt m k) (some v)) (b - L .turns v)
 
     with-out : (o : L .Op) (args : List (L .Value)) → getElem? ops k ≡ some o → readAll t (L .operands o) ≡ some args
@@ -212,7 +212,7 @@ module _ (L : Language) (m : ℕ) (ops : List (L .Op)) (Fits : ℕ → L .Value 
     pub follows : (ks known done : List ℕ) (t e : List (Option (L .Value))) (b : ℕ) → Under L m ops ks known done t → Within t e → TableFits Fits e
         → ((k : ℕ) → k < length ops → Made L m ops e k) → spend (L .turns) e ≤ spend (L .turns) t + b → length e ≡ length t
         → run L m ops step ks t b ≡ ended e
-    follows [] known done t e b u w tf made paid size = ap {B = End (L .Value) (L .Stop)} ended (ext-getD none t e (sym size) (λ i h. same i h (decLt i m)))
+    follows [] known done t e b u w tf made paid size = ap {B = RunEnd (L .Value) (L .Stop)} ended (ext-getD none t e (sym size) (λ i h. same i h (decLt i m)))
       where
         from : (i : ℕ) → There t i → getD t i none ≡ getD e i none
         from i h = h .1 ∙ sym (w i (h .0) (h .1))

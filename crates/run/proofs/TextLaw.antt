@@ -12,7 +12,7 @@ use lib.ListN.{length, getD, set, replicate, getElem?, length-append, length-map
 use Rattle.lists.specs.Lists.{All}
 use Rattle.lists.proofs.AllLaw.{all-map}
 use Rattle.run.specs.Tree.{countFrom}
-use Rattle.run.specs.Run.{Out, gives, stops, Language, Step, onOut, Answer, results, stopped, valuesAt, evaluateFrom, End, ended, met}
+use Rattle.run.specs.Run.{Out, gives, stops, Language, Step, onOut, Answer, results, stopped, valuesAt, evaluateFrom, RunEnd, ended, met}
 use Rattle.run.specs.Run.{readAll, firstTable, count, run, operandsAt, OperandsFirst, Order, Scoped}
 use Rattle.run.proofs.TableLaw.{none-of, There, count-head, count-other}
 use Rattle.run.proofs.RunLaw.{Under}
@@ -133,7 +133,7 @@ length-snoc [] v = refl
 length-snoc (w ∷ vs) v = ap suc (length-snoc vs v)
 
 -- a run's end is the answer's: the table of the values that it has, and a stop where it has one
-abbrev pub EndsAs : {A B : Type 0} → Answer A B → End A B → Type 0
+abbrev pub EndsAs : {A B : Type 0} → Answer A B → RunEnd A B → Type 0
 EndsAs (results vs) x = x ≡ ended (map some vs)
 EndsAs (stopped vs k w) x = (n : ℕ) × (x ≡ met (firstTable vs n) k w)
 
@@ -143,7 +143,7 @@ byMeaning L k = L .meaning
 module _ (L : Language) (m : ℕ) where
   pub in-text : (pre os : List (L .Op)) (vs : List (L .Value)) (b : ℕ) → length vs ≡ m + length pre → Scoped L m (pre ++ os)
       → EndsAs (evaluateFrom L (length pre) os vs b) (run L m (pre ++ os) (byMeaning L) (countFrom (length pre) (length os)) (firstTable vs (length os)) b)
-  in-text pre [] vs b e sc = ap {B = End (L .Value) (L .Stop)} ended (append-nil (map some vs))
+  in-text pre [] vs b e sc = ap {B = RunEnd (L .Value) (L .Stop)} ended (append-nil (map some vs))
   in-text pre (o ∷ os) vs b e sc =
       rw (op-mid pre o os, read-values L vs (none ∷ replicate (length os) none) (L .operands o) early)
       (go (λ v. in-text (pre ++ o ∷ []) os (vs ++ v ∷ []) (b - L .turns v)

@@ -9,7 +9,7 @@ use native.Mathlib.Omega.{arith}
 use lib.ListN.{length, getD, getElem?}
 use Rattle.lists.specs.Lists.{All}
 use Rattle.run.specs.Tree.{Tree, countFrom, comb, fold, MonoidOn}
-use Rattle.run.specs.Run.{Out, gives, Program, firstTable, Scoped}
+use Rattle.run.specs.Run.{Out, gives, RunProgram, firstTable, Scoped}
 use Rattle.run.specs.Ways.{Way, plain, gather, OpSet, treeValues, TreesFor, byFold, byTrees, languageOf, OrderOf, sizesAt, TreesAllowed, OrderFree, AllFit, Gathers, Premises, InputsFit}
 use Rattle.run.proofs.TreeLaw.{tree-monoid, comb-allowed}
 use Rattle.run.proofs.TableLaw.{TableFits}
@@ -57,7 +57,7 @@ module _ {A : Type 0} (Fits : ℕ → A → Type 0) where
       subst (λ (k : ℕ). Fits k v) y (first-fits (suc j) m n vs (h .1) i v e)
 
 -- The order theorem: for every program whose ops meet the premises, on all inputs that fit, with any budget.
-pub order-free : (S : OpSet) (p : Program (S .Op)) (Fits : ℕ → S .Value → Type 0) (Valid : S .Op → S .Element → Type 0) → Premises S p Fits Valid
+pub order-free : (S : OpSet) (p : RunProgram (S .Op)) (Fits : ℕ → S .Value → Type 0) (Valid : S .Op → S .Element → Type 0) → Premises S p Fits Valid
     → (inputs : List (S .Value)) → InputsFit p Fits inputs → (b : ℕ) → OrderFree S p inputs b
 order-free S p Fits Valid h inputs fit b order or trees ta =
     order-independent-at (languageOf S) (p .ops) inputs Fits table (p .inputs) (fit-length Fits 0 (p .inputs) inputs fit) lawful (h .scoped)
@@ -76,8 +76,8 @@ order-free S p Fits Valid h inputs fit b order or trees ta =
         (λ q. sym z ∙ q, λ q. z ∙ q)
 
 -- The theorem speaks of something: the text's own order is an order, and there are trees for every reduction.
-pub text-is-order : (S : OpSet) (p : Program (S .Op)) → Scoped (languageOf S) (p .inputs) (p .ops) → OrderOf S p (countFrom 0 (length (p .ops)))
+pub text-is-order : (S : OpSet) (p : RunProgram (S .Op)) → Scoped (languageOf S) (p .inputs) (p .ops) → OrderOf S p (countFrom 0 (length (p .ops)))
 text-is-order S p h = text-order (languageOf S) (p .inputs) (p .ops) h
 
-pub combs-allowed : (S : OpSet) (p : Program (S .Op)) → TreesAllowed S p (λ k i. comb (getD (sizesAt S p k) i 0))
+pub combs-allowed : (S : OpSet) (p : RunProgram (S .Op)) → TreesAllowed S p (λ k i. comb (getD (sizesAt S p k) i 0))
 combs-allowed S p k h i q = comb-allowed (getD (sizesAt S p k) i 0)

@@ -7,11 +7,11 @@ use lib.Dec.{eqb, ltb}
 use lib.ListN.{getD}
 use Rattle.lists.specs.Lists.{pick, tab, firstWhere}
 use Rattle.run.specs.Tree.{Tree, leaf, node, start, element}
-use Rattle.run.specs.Run.{Out, gives, stops, Program}
+use Rattle.run.specs.Run.{Out, gives, stops, RunProgram}
 use Rattle.run.specs.Ways.{Way, plain, gather, OpSet}
 
-abbrev pub Tensor : Type 0
-Tensor = List ℕ
+abbrev pub SmallTensor : Type 0
+SmallTensor = List ℕ
 
 -- the left number unless it is 0: associative, and not commutative
 abbrev pub leading : ℕ → ℕ → ℕ
@@ -23,48 +23,48 @@ abbrev pub nothing : ℕ
 nothing = 0
 
 -- a constant; n quotients of two values; the leading one of a value's n numbers, from a start value
-pub data Op : Type 0 where
-  constant : Tensor → Op
-  divide : ℕ → ℕ → ℕ → Op
-  first : ℕ → ℕ → ℕ → Op
+pub data SmallOp : Type 0 where
+  constant : SmallTensor → SmallOp
+  divide : ℕ → ℕ → ℕ → SmallOp
+  first : ℕ → ℕ → ℕ → SmallOp
 
-abbrev pub operandsOf : Op → List ℕ
-operandsOf (constant xs) = []
-operandsOf (divide n x y) = x ∷ y ∷ []
-operandsOf (first n x s) = x ∷ s ∷ []
+abbrev pub smallOperands : SmallOp → List ℕ
+smallOperands (constant xs) = []
+smallOperands (divide n x y) = x ∷ y ∷ []
+smallOperands (first n x s) = x ∷ s ∷ []
 
-abbrev pub quotients : ℕ → Tensor → Tensor → Out Tensor ℕ
+abbrev pub quotients : ℕ → SmallTensor → SmallTensor → Out SmallTensor ℕ
 quotients n x y =
     let zeroAt = firstWhere (λ d. eqb d 0) y in
     pick (ltb zeroAt n) (stops zeroAt) (gives (tab n (λ i. getD x i 0 / getD y i 0)))
 
-abbrev pub wayOf : Op → List Tensor → Way Tensor ℕ ℕ
-wayOf (constant xs) args = plain (gives xs)
-wayOf (divide n x y) args = plain (quotients n (getD args 0 []) (getD args 1 []))
-wayOf (first n x s) args = gather leading (getD (getD args 1 []) 0 0) (getD args 0 [] ∷ [])
+abbrev pub smallWay : SmallOp → List SmallTensor → Way SmallTensor ℕ ℕ
+smallWay (constant xs) args = plain (gives xs)
+smallWay (divide n x y) args = plain (quotients n (getD args 0 []) (getD args 1 []))
+smallWay (first n x s) args = gather leading (getD (getD args 1 []) 0 0) (getD args 0 [] ∷ [])
 
-abbrev pub rowsOf : Op → List ℕ
-rowsOf (constant xs) = []
-rowsOf (divide n x y) = []
-rowsOf (first n x s) = n ∷ []
+abbrev pub smallRows : SmallOp → List ℕ
+smallRows (constant xs) = []
+smallRows (divide n x y) = []
+smallRows (first n x s) = n ∷ []
 
 abbrev pub numbers : OpSet
 numbers =
     record {
-      Op = Op;
-      Value = Tensor;
+      Op = SmallOp;
+      Value = SmallTensor;
       Stop = ℕ;
       Element = ℕ;
-      operands = operandsOf;
+      operands = smallOperands;
       turns = λ v. 0;
       blank = [];
       valueOf = λ xs. xs;
-      rowSizes = rowsOf;
-      way = λ o args b. wayOf o args;
+      rowSizes = smallRows;
+      way = λ o args b. smallWay o args;
     }
 
 -- an input of 3 numbers is value 0; value 4 is the leading one of their halves
-abbrev pub halves : Program Op
+abbrev pub halves : RunProgram SmallOp
 halves =
     record {
       inputs = 1;
@@ -81,5 +81,5 @@ abbrev pub trees : ℕ → ℕ → Tree
 trees k i = node (node (leaf start) (leaf (element 0))) (node (leaf (element 1)) (node (leaf start) (leaf (element 2))))
 
 -- the first input by each of two others
-abbrev pub twice : Program Op
+abbrev pub twice : RunProgram SmallOp
 twice = record { inputs = 3; ops = divide 2 0 1 ∷ divide 2 0 2 ∷ []; returns = 3 ∷ 4 ∷ [] }

@@ -40,7 +40,7 @@ pub record Language : Type 1 where
 
 -- A program over the ops O: how many inputs it has, its ops in text order, and the values that its return names. A value goes by its number:
 -- the inputs come first, then each op's result in text order.
-pub record Program (O : Type 0) : Type 0 where
+pub record RunProgram (O : Type 0) : Type 0 where
   pub inputs : ℕ
   pub ops : List O
   pub returns : List ℕ
@@ -72,10 +72,10 @@ module _ (L : Language) where
 
 -- A table has a place for each value, which holds it or is free. A run goes through its whole order; or an op stops it, and its table stays as
 -- it is ("adds nothing and ends the run"); or an op finds an operand's place free.
-pub data End (A B : Type 0) : Type 0 where
-  ended : List (Option A) → End A B
-  met : List (Option A) → ℕ → B → End A B
-  stuck : ℕ → End A B
+pub data RunEnd (A B : Type 0) : Type 0 where
+  ended : List (Option A) → RunEnd A B
+  met : List (Option A) → ℕ → B → RunEnd A B
+  stuck : ℕ → RunEnd A B
 
 abbrev pub onOption : {A C : Type 0} → Option A → C → (A → C) → C
 onOption none c f = c
@@ -92,7 +92,7 @@ module _ {A : Type 0} where
   firstTable inputs n = map some inputs ++ replicate n none
 
   -- "Results are what the return names."
-  abbrev pub resultsOf : {B : Type 0} → List ℕ → End A B → Option (List A)
+  abbrev pub resultsOf : {B : Type 0} → List ℕ → RunEnd A B → Option (List A)
   resultsOf returns (ended t) = readAll t returns
   resultsOf returns (met t k w) = none
   resultsOf returns (stuck k) = none
@@ -113,7 +113,7 @@ resultAt m k = m + k
 -- of a program with m inputs and these ops
 module _ (L : Language) (m : ℕ) (ops : List (L .Op)) where
   -- "Each op in turn reads its operands there and adds its result"
-  abbrev pub run : (ℕ → Step L) → List ℕ → List (Option (L .Value)) → ℕ → End (L .Value) (L .Stop)
+  abbrev pub run : (ℕ → Step L) → List ℕ → List (Option (L .Value)) → ℕ → RunEnd (L .Value) (L .Stop)
   run step [] t b = ended t
   run step (k ∷ ks) t b =
       onOption (getElem? ops k) (stuck k) (λ o.
@@ -142,6 +142,6 @@ module _ (L : Language) (m : ℕ) (ops : List (L .Op)) where
 
 -- What is claimed of a free run's end by the evaluation's answer. Results: it ends, its table holds the evaluation's values and nothing else, and
 -- its results are the evaluation's. A stop: it meets one.
-abbrev pub Claim : (L : Language) → List ℕ → Answer (L .Value) (L .Stop) → End (L .Value) (L .Stop) → Type 0
+abbrev pub Claim : (L : Language) → List ℕ → Answer (L .Value) (L .Stop) → RunEnd (L .Value) (L .Stop) → Type 0
 Claim L returns (results vs) e = (e ≡ ended (map some vs)) × (resultsOf returns e ≡ some (valuesAt L vs returns))
 Claim L returns (stopped vs k w) e = (t : List (Option (L .Value))) × (j : ℕ) × (u : L .Stop) × (e ≡ met t j u)

@@ -7,7 +7,7 @@ use Prim.Native.Nat.{ℕ, zero, suc, _+_, _≤_, _<_}
 use lib.ListN.{length, getD, getElem?}
 use Rattle.lists.specs.Lists.{All}
 use Rattle.run.specs.Tree.{Tree, countFrom, Allowed, fold, treeValue, MonoidOn}
-use Rattle.run.specs.Run.{Out, gives, stops, Language, Program, Answer, evaluate, End, firstTable, run, onOption, Order, Scoped, Claim}
+use Rattle.run.specs.Run.{Out, gives, stops, Language, RunProgram, Answer, evaluate, RunEnd, firstTable, run, onOption, Order, Scoped, Claim}
 
 -- An op has its result outright, or stops; or it gathers: each element of its result is made of a row of elements from a start value by an
 -- operation, as in a reduction. A are values, B stops, E elements.
@@ -64,25 +64,25 @@ module _ (S : OpSet) where
         meaning = λ o args b. byFold (S .way o args b);
       }
 
-  abbrev pub evaluation : Program (S .Op) → List (S .Value) → ℕ → Answer (S .Value) (S .Stop)
+  abbrev pub evaluation : RunProgram (S .Op) → List (S .Value) → ℕ → Answer (S .Value) (S .Stop)
   evaluation p inputs b = evaluate languageOf (p .ops) inputs b
 
   -- "A free run is fed an accepted program, its inputs, an order and trees": trees k i is the tree of op k's result element i
-  abbrev pub freeRun : Program (S .Op) → List (S .Value) → List ℕ → (ℕ → ℕ → Tree) → ℕ → End (S .Value) (S .Stop)
+  abbrev pub freeRun : RunProgram (S .Op) → List (S .Value) → List ℕ → (ℕ → ℕ → Tree) → ℕ → RunEnd (S .Value) (S .Stop)
   freeRun p inputs order trees b =
       run languageOf (p .inputs) (p .ops) (λ k o args left. byTrees (trees k) (S .way o args left)) order (firstTable inputs (length (p .ops))) b
 
-  abbrev pub OrderOf : Program (S .Op) → List ℕ → Type 0
+  abbrev pub OrderOf : RunProgram (S .Op) → List ℕ → Type 0
   OrderOf p order = Order languageOf (p .inputs) (p .ops) order
 
-  abbrev pub sizesAt : Program (S .Op) → ℕ → List ℕ
+  abbrev pub sizesAt : RunProgram (S .Op) → ℕ → List ℕ
   sizesAt p k = onOption (getElem? (p .ops) k) [] (S .rowSizes)
 
-  abbrev pub TreesAllowed : Program (S .Op) → (ℕ → ℕ → Tree) → Type 0
+  abbrev pub TreesAllowed : RunProgram (S .Op) → (ℕ → ℕ → Tree) → Type 0
   TreesAllowed p trees = (k : ℕ) → k < length (p .ops) → TreesFor (sizesAt p k) (trees k)
 
   -- Demand 3, of a program on its inputs with a budget: one claim about all orders and all families of trees.
-  abbrev pub OrderFree : Program (S .Op) → List (S .Value) → ℕ → Type 0
+  abbrev pub OrderFree : RunProgram (S .Op) → List (S .Value) → ℕ → Type 0
   OrderFree p inputs b =
       (order : List ℕ) → OrderOf p order → (trees : ℕ → ℕ → Tree) → TreesAllowed p trees
       → Claim languageOf (p .returns) (evaluation p inputs b) (freeRun p inputs order trees b)
@@ -104,7 +104,7 @@ Gathers valid sizes (gather f s rows) = MonoidOn valid f s × All (All valid) ro
 -- What the ops of a program owe, where `Fits i v` says that v can be value number i, and `Valid o` which elements op o can gather: operands and
 -- results name earlier values; on operands that fit, an op's result fits and takes its turns from any budget that has them, and gathers in
 -- a way that trees cannot alter.
-pub record Premises (S : OpSet) (p : Program (S .Op)) (Fits : ℕ → S .Value → Type 0) (Valid : S .Op → S .Element → Type 0) : Type 0 where
+pub record Premises (S : OpSet) (p : RunProgram (S .Op)) (Fits : ℕ → S .Value → Type 0) (Valid : S .Op → S .Element → Type 0) : Type 0 where
   pub scoped : Scoped (languageOf S) (p .inputs) (p .ops)
   pub returned : All (λ i. i < p .inputs + length (p .ops)) (p .returns)
   pub fits : (k : ℕ) (o : S .Op) → getElem? (p .ops) k ≡ some o → (args : List (S .Value)) → AllFit Fits (S .operands o) args
@@ -117,5 +117,5 @@ pub record Premises (S : OpSet) (p : Program (S .Op)) (Fits : ℕ → S .Value �
       → (b c : ℕ) (v : S .Value) → byFold S (S .way o args b) ≡ gives v → S .turns v ≤ c → byFold S (S .way o args c) ≡ gives v
 
 -- the inputs fit their numbers, and are as many as the program has
-abbrev pub InputsFit : {O A : Type 0} → Program O → (ℕ → A → Type 0) → List A → Type 0
+abbrev pub InputsFit : {O A : Type 0} → RunProgram O → (ℕ → A → Type 0) → List A → Type 0
 InputsFit p Fits inputs = AllFit Fits (countFrom 0 (p .inputs)) inputs

@@ -10,7 +10,7 @@ use lib.Dec.{lit<}
 use lib.Bits.{bitAnd, bitOr, and-comm, or-comm, and-self, or-self}
 use lib.IntN.{ℤ, pos, _+ℤ_, _*ℤ_, +ℤ-idl, +ℤ-idr, +ℤ-comm, *ℤ-comm, *ℤ-one, one}
 use Rattle.lists.specs.Lists.{pick}
-use Rattle.element.specs.Types.{residue, read, widthOf, signedOf, boolOf, allOf, valueOf, wrapTo, slotFor, slotOf, Value}
+use Rattle.element.specs.Types.{residue, read, widthOf, signedOf, boolOf, allOf, valueOf, wrapTo, slotFor, slotOf, SlotHolds}
 use Rattle.element.specs.declared.ElementType.{ElementType}
 use Rattle.element.specs.declared.ElementType.the-variants.{I1, I8, I16, I32, I64, U8, U16, U32, U64}
 use Rattle.element.proofs.Mod.{mul-mod-l, mul-mod-r}
@@ -63,7 +63,7 @@ module _ (t : ElementType) (f : ℤ → ℤ → ℤ) (g : ℕ → ℕ → ℕ)
       z : ℤ
       z = valueOf t c
 
-  on-reducible : (e : ℕ) → Value t e → ((z : ℤ) → f (valueOf t e) z ≡ z) → ((z : ℤ) → f z (valueOf t e) ≡ z) → Reducible (Value t) (on t f) e
+  on-reducible : (e : ℕ) → SlotHolds t e → ((z : ℤ) → f (valueOf t e) z ≡ z) → ((z : ℤ) → f z (valueOf t e) ≡ z) → Reducible (SlotHolds t) (on t f) e
   on-reducible e v l r = record {
     neutral = v;
     closed = λ a b x y. wrapped-value t (f (valueOf t a) (valueOf t b));
@@ -79,22 +79,22 @@ sum-assoc m a b c = mod-add-mod (a + b) m c ∙ ap (λ (x : ℕ). x % m) (add-as
 product-assoc : (m a b c : ℕ) → ((a * b) % m * c) % m ≡ (a * ((b * c) % m)) % m
 product-assoc m a b c = mul-mod-l (a * b) c m ∙ ap (λ (x : ℕ). x % m) (mul-assoc a b c) ∙ sym (mul-mod-r a (b * c) m)
 
-sum-reducible : (t : ElementType) → Reducible (Value t) (on t _+ℤ_) 0
+sum-reducible : (t : ElementType) → Reducible (SlotHolds t) (on t _+ℤ_) 0
 sum-reducible t =
     on-reducible t _+ℤ_ (λ (x y : ℕ). (x + y) % modulus t) (residue-add (modulus t) (pow-pos (widthOf t))) (sum-assoc (modulus t)) 0 (zero-value t)
     (λ z. rw (value-small t 0 (lit< tt)) (+ℤ-idl z)) (λ z. rw (value-small t 0 (lit< tt)) (+ℤ-idr z))
 
-product-reducible : (t : ElementType) → Reducible (Value t) (on t _*ℤ_) 1
+product-reducible : (t : ElementType) → Reducible (SlotHolds t) (on t _*ℤ_) 1
 unfolding one
 product-reducible t =
     on-reducible t _*ℤ_ (λ (x y : ℕ). (x * y) % modulus t) (residue-mul (modulus t) (pow-pos (widthOf t))) (product-assoc (modulus t)) 1 (ends t .one)
     (λ z. rw (value-small t 1 (lit< tt)) (*ℤ-comm (pos 1) z ∙ *ℤ-one z)) (λ z. rw (value-small t 1 (lit< tt)) (*ℤ-one z))
 
-pub add-reducible : (t : ElementType) → Reducible (Value t) (addOf t) 0
+pub add-reducible : (t : ElementType) → Reducible (SlotHolds t) (addOf t) 0
 unfolding addOf
 add-reducible t = go (boolOf t)
   where
-    go : (b : Bool) → Reducible (Value t) (λ (a c : ℕ). pick b (bitOr a c) (on t _+ℤ_ a c)) 0
+    go : (b : Bool) → Reducible (SlotHolds t) (λ (a c : ℕ). pick b (bitOr a c) (on t _+ℤ_ a c)) 0
     go true = or-reducible t
     go false = sum-reducible t
 
@@ -110,11 +110,11 @@ all-one U16 e = let z : _≡_ {A = ℕ} 0 1 = cc in absurd (omega arith)
 all-one U32 e = let z : _≡_ {A = ℕ} 0 1 = cc in absurd (omega arith)
 all-one U64 e = let z : _≡_ {A = ℕ} 0 1 = cc in absurd (omega arith)
 
-pub multiply-reducible : (t : ElementType) → Reducible (Value t) (multiplyOf t) 1
+pub multiply-reducible : (t : ElementType) → Reducible (SlotHolds t) (multiplyOf t) 1
 unfolding multiplyOf
 multiply-reducible t = go (boolOf t) refl
   where
-    go : (b : Bool) → boolOf t ≡ b → Reducible (Value t) (λ (a c : ℕ). pick b (bitAnd a c) (on t _*ℤ_ a c)) 1
+    go : (b : Bool) → boolOf t ≡ b → Reducible (SlotHolds t) (λ (a c : ℕ). pick b (bitAnd a c) (on t _*ℤ_ a c)) 1
     go true e = rw (all-one t e) at (and-reducible t)
     go false e = product-reducible t
 

@@ -10,7 +10,7 @@ use native.Mathlib.Omega.{arith}
 use lib.Pow.{pow-pos, pow-mono, high-ones}
 use lib.Dec.{lit<}
 use lib.Bits.{bitAnd, bitOr, bitXor, and-shr, or-shr, xor-shr, and-lt, or-lt, xor-lt, and-zero-l, and-zero-r, or-zero-l, or-zero-r, xor-zero-l, xor-zero-r, and-self, or-self, xor-self, and-comm, and-mask}
-use Rattle.element.specs.Types.{widthOf, signedOf, Value, lowestOf, highestOf, allOf}
+use Rattle.element.specs.Types.{widthOf, signedOf, SlotHolds, lowestOf, highestOf, allOf}
 use Rattle.element.specs.declared.ElementType.{ElementType}
 use Rattle.element.proofs.Slots.{sized}
 use Rattle.element.proofs.Range.{low-value, high-value, value-cases, value-lt, unsigned-range, unsigned-value}
@@ -39,7 +39,7 @@ module _ (t : ElementType) (g : signedOf t ≡ true) where
   less : 2 ^ low ≤ 2 ^ 64
   less = pow-mono {i = low} {j = 64} (omega (arith, sized t .most))
 
-  uniform : (s : ℕ) → Value t s → Uniform top (s / 2 ^ low)
+  uniform : (s : ℕ) → SlotHolds t s → Uniform top (s / 2 ^ low)
   uniform s v = go (value-cases t v)
     where
       go : (s ≤ highestOf t) ⊎ ((signedOf t ≡ true) × (lowestOf t ≤ s) × (s < 2 ^ 64)) → Uniform top (s / 2 ^ low)
@@ -48,7 +48,7 @@ module _ (t : ElementType) (g : signedOf t ≡ true) where
           let m : 2 ^ 64 - 2 ^ low ≤ s = rw g at (h .1) in
           inr (div-eq-of-lt-le (2 ^ low) (rw whole at m) (rw (add-mul (2 ^ top - 1) 1 (2 ^ low), one-mul (2 ^ low)) (omega (arith, whole, h .2, less))))
 
-  from-uniform : (s : ℕ) → s < 2 ^ 64 → Uniform top (s / 2 ^ low) → Value t s
+  from-uniform : (s : ℕ) → s < 2 ^ 64 → Uniform top (s / 2 ^ low) → SlotHolds t s
   from-uniform s h (inl e) = low-value t (rw g (omega (arith, div-lt-iff-lt-mul {x = s} {y = 1} (pow-pos low) .0 (rw e (lit< tt)), one-mul (2 ^ low))))
   from-uniform s h (inr e) = high-value t g (rw (g, whole, ← e) (div-mul-le-self s (2 ^ low))) h
 
@@ -57,10 +57,10 @@ module _ (op : ℕ → ℕ → ℕ)
     (shr : (a b k : ℕ) → op a b / 2 ^ k ≡ op (a / 2 ^ k) (b / 2 ^ k))
     (lt : (k a b : ℕ) → a < 2 ^ k → b < 2 ^ k → op a b < 2 ^ k)
     (keeps : (j x y : ℕ) → Uniform j x → Uniform j y → Uniform j (op x y)) where
-  bitwise-closed : (t : ElementType) (a b : ℕ) → Value t a → Value t b → Value t (op a b)
+  bitwise-closed : (t : ElementType) (a b : ℕ) → SlotHolds t a → SlotHolds t b → SlotHolds t (op a b)
   bitwise-closed t a b x y = go (signedOf t) refl
     where
-      go : (s : Bool) → signedOf t ≡ s → Value t (op a b)
+      go : (s : Bool) → signedOf t ≡ s → SlotHolds t (op a b)
       go true g =
           from-uniform t g (op a b) (lt 64 a b (value-lt t a x) (value-lt t b y))
           (rw (shr a b (low t g)) (keeps (top t g) (a / 2 ^ low t g) (b / 2 ^ low t g) (uniform t g a x) (uniform t g b y)))
@@ -81,7 +81,7 @@ xor-keeps j x y (inl e) v = rw (e, xor-zero-l y) v
 xor-keeps j x y (inr e) (inl f) = inr (rw (f, xor-zero-r x) e)
 xor-keeps j x y (inr e) (inr f) = inl (rw (e, f) (xor-self (2 ^ j - 1)))
 
-and-all : (t : ElementType) (a : ℕ) → Value t a → bitAnd a (allOf t) ≡ a
+and-all : (t : ElementType) (a : ℕ) → SlotHolds t a → bitAnd a (allOf t) ≡ a
 and-all t a x = go (signedOf t) refl
   where
     go : (s : Bool) → signedOf t ≡ s → bitAnd a (allOf t) ≡ a
@@ -89,7 +89,7 @@ and-all t a x = go (signedOf t) refl
     go false g = rw g (and-mask a (widthOf t) ∙ mod-eq-of-lt (unsigned-range t a x g))
 
 module _ (t : ElementType) where
-  pub or-reducible : Reducible (Value t) bitOr 0
+  pub or-reducible : Reducible (SlotHolds t) bitOr 0
   or-reducible = record {
     neutral = zero-value t;
     closed = bitwise-closed bitOr or-shr or-lt or-keeps t;
@@ -98,7 +98,7 @@ module _ (t : ElementType) where
     right = λ a x. or-zero-r a;
   }
 
-  pub xor-reducible : Reducible (Value t) bitXor 0
+  pub xor-reducible : Reducible (SlotHolds t) bitXor 0
   xor-reducible = record {
     neutral = zero-value t;
     closed = bitwise-closed bitXor xor-shr xor-lt xor-keeps t;
@@ -107,7 +107,7 @@ module _ (t : ElementType) where
     right = λ a x. xor-zero-r a;
   }
 
-  pub and-reducible : Reducible (Value t) bitAnd (allOf t)
+  pub and-reducible : Reducible (SlotHolds t) bitAnd (allOf t)
   and-reducible = record {
     neutral = ends t .all;
     closed = bitwise-closed bitAnd and-shr and-lt and-keeps t;

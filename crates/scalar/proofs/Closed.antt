@@ -13,7 +13,7 @@ use lib.Pow.{pow-pos, pow-mono}
 use lib.Count.{leading-le, ones-le}
 use borrow.Author.Tests.{eqb-false}
 use Rattle.lists.specs.Lists.{pick}
-use Rattle.element.specs.Types.{widthOf, signedOf, boolOf, lowestOf, highestOf, valueOf, wrapTo, slotFor, slotOf, Value}
+use Rattle.element.specs.Types.{widthOf, signedOf, boolOf, lowestOf, highestOf, valueOf, wrapTo, slotFor, slotOf, SlotHolds}
 use Rattle.element.specs.declared.ElementType.{ElementType}
 use Rattle.element.specs.declared.ElementType.the-variants.{I1}
 use Rattle.element.proofs.Wrap.{wrap-signed}
@@ -33,25 +33,25 @@ use Rattle.scalar.proofs.Order.{maximum-reducible, minimum-reducible}
 use Rattle.scalar.proofs.Algebra.{add-reducible, multiply-reducible}
 
 module _ (t : ElementType) where
-  pick-value : (b : Bool) (x y : ℕ) → Value t x → Value t y → Value t (pick b x y)
+  pick-value : (b : Bool) (x y : ℕ) → SlotHolds t x → SlotHolds t y → SlotHolds t (pick b x y)
   pick-value true x y u v = u
   pick-value false x y u v = v
 
   -- -1
-  minus-one : signedOf t ≡ true → Value t (2 ^ 64 - 1)
+  minus-one : signedOf t ≡ true → SlotHolds t (2 ^ 64 - 1)
   minus-one g = rw g at (ends t .all)
 
   -- a number of a signed type's range
-  in-range : signedOf t ≡ true → (z : ℤ) → mag z < 2 ^ (widthOf t - 1) → Value t (slotOf z)
+  in-range : signedOf t ≡ true → (z : ℤ) → mag z < 2 ^ (widthOf t - 1) → SlotHolds t (slotOf z)
   unfolding wrapTo slotFor
   in-range g z h = rw (g, wrap-signed (widthOf t) (sized t .least) z h) at (wrapped-value t z)
 
   -- a count of bits of the type's width
-  count : {k : ℕ} → k ≤ widthOf t → Value t k
+  count : {k : ℕ} → k ≤ widthOf t → SlotHolds t k
   count h = low-value t (le-trans h (ends t .width))
 
   -- the magnitude of a negative value but the lowest
-  magnitude : (a : ℕ) → Value t a → ltZ (valueOf t a) (pos 0) ≡ true → (a ≡ lowestOf t → ⊥) → Value t (slotOf (negℤ (valueOf t a)))
+  magnitude : (a : ℕ) → SlotHolds t a → ltZ (valueOf t a) (pos 0) ≡ true → (a ≡ lowestOf t → ⊥) → SlotHolds t (slotOf (negℤ (valueOf t a)))
   magnitude a v n e = rw (value-negative t a n .0, mod-eq-of-lt small) (low-value t (rw g (go (value-cases t v))))
     where
       g : signedOf t ≡ true
@@ -73,47 +73,47 @@ module _ (t : ElementType) where
           let d : a ≡ 2 ^ 64 - 2 ^ (widthOf t - 1) → ⊥ = rw g at e in
           omega (arith, l .2, p)
 
-  abs-closed : (a : ℕ) → Value t a → Value t (absOf t a)
+  abs-closed : (a : ℕ) → SlotHolds t a → SlotHolds t (absOf t a)
   unfolding absOf
   abs-closed a v = go (ltZ (valueOf t a) (pos 0)) (eqb a (lowestOf t)) refl (eqb-false a (lowestOf t))
     where
-      go : (n e : Bool) → ltZ (valueOf t a) (pos 0) ≡ n → (e ≡ false → a ≡ lowestOf t → ⊥) → Value t (pick n (pick e (highestOf t) (slotOf (negℤ (valueOf t a)))) a)
+      go : (n e : Bool) → ltZ (valueOf t a) (pos 0) ≡ n → (e ≡ false → a ≡ lowestOf t → ⊥) → SlotHolds t (pick n (pick e (highestOf t) (slotOf (negℤ (valueOf t a)))) a)
       go false e n d = v
       go true true n d = ends t .highest
       go true false n d = magnitude a v n (d refl)
 
-  sign-closed : (a : ℕ) → Value t (signOf t a)
+  sign-closed : (a : ℕ) → SlotHolds t (signOf t a)
   unfolding signOf
   sign-closed a = go (ltZ (valueOf t a) (pos 0)) refl
     where
-      go : (n : Bool) → ltZ (valueOf t a) (pos 0) ≡ n → Value t (pick n (slotOf (negsuc 0)) (pick (eqb a 0) 0 1))
+      go : (n : Bool) → ltZ (valueOf t a) (pos 0) ≡ n → SlotHolds t (pick n (slotOf (negsuc 0)) (pick (eqb a 0) 0 1))
       go true n = minus-one (negative-signed t a n)
       go false n = pick-value (eqb a 0) 0 1 (zero-value t) (ends t .one)
 
-  popcnt-closed : (a : ℕ) → Value t (popcntOf t a)
+  popcnt-closed : (a : ℕ) → SlotHolds t (popcntOf t a)
   unfolding popcntOf
   popcnt-closed a = rw (ones-low (widthOf t) a) (count (ones-le (widthOf t) (a % 2 ^ widthOf t) (mod-lt a (pow-pos (widthOf t)))))
 
   -- a value divided, rounded down
-  shifted : (a m : ℕ) → Value t a → Value t (slotOf (shrZ (valueOf t a) m))
+  shifted : (a m : ℕ) → SlotHolds t a → SlotHolds t (slotOf (shrZ (valueOf t a) m))
   shifted a m v = go (signedOf t) refl
     where
-      go : (s : Bool) → signedOf t ≡ s → Value t (slotOf (shrZ (valueOf t a) m))
+      go : (s : Bool) → signedOf t ≡ s → SlotHolds t (slotOf (shrZ (valueOf t a) m))
       go true g = in-range g (shrZ (valueOf t a) m) (lt-of-le-of-lt (mag-shr (valueOf t a) m) (signed-range t a v g))
       go false g =
           let l : a / m < 2 ^ widthOf t = lt-of-le-of-lt (div-le-self a m) (unsigned-range t a v g) in
           rw (value-unsigned t a g, mod-eq-of-lt (lt-of-le-of-lt (div-le-self a m) (value-lt t a v))) (unsigned-value t g l)
 
-  arithmetic-closed : (a b : ℕ) → Value t a → Value t (shiftRightArithmeticOf t a b)
+  arithmetic-closed : (a b : ℕ) → SlotHolds t a → SlotHolds t (shiftRightArithmeticOf t a b)
   unfolding shiftRightArithmeticOf
   arithmetic-closed a b v = go (amountOut t b) (ltZ (valueOf t a) (pos 0)) refl
     where
-      go : (o n : Bool) → ltZ (valueOf t a) (pos 0) ≡ n → Value t (slotOf (pick o (pick n (negsuc 0) (pos 0)) (shrZ (valueOf t a) (amountPower t b))))
+      go : (o n : Bool) → ltZ (valueOf t a) (pos 0) ≡ n → SlotHolds t (slotOf (pick o (pick n (negsuc 0) (pos 0)) (shrZ (valueOf t a) (amountPower t b))))
       go true true e = minus-one (negative-signed t a e)
       go true false e = zero-value t
       go false n e = shifted a (amountPower t b) v
 
-pub unary-closed : (op : Unary) (t : ElementType) (a : ℕ) → Value t a → Value t (unaryOf op t a)
+pub unary-closed : (op : Unary) (t : ElementType) (a : ℕ) → SlotHolds t a → SlotHolds t (unaryOf op t a)
 unfolding negateOf notOf countLeadingZerosOf
 unary-closed Negate t a v = wrapped-value t (negℤ (valueOf t a))
 unary-closed Abs t a v = abs-closed t a v
@@ -122,7 +122,7 @@ unary-closed Not t a v = xor-reducible t .closed a _ v (ends t .all)
 unary-closed CountLeadingZeros t a v = count t (leading-le (widthOf t) (a % 2 ^ widthOf t))
 unary-closed Popcnt t a v = popcnt-closed t a
 
-pub binary-closed : (op : Binary) (t : ElementType) (a b : ℕ) → Value t a → Value t b → Value t (binaryOf op t a b)
+pub binary-closed : (op : Binary) (t : ElementType) (a b : ℕ) → SlotHolds t a → SlotHolds t b → SlotHolds t (binaryOf op t a b)
 unfolding subtractOf shiftLeftOf shiftRightLogicalOf
 binary-closed Add t a b u v = add-reducible t .closed a b u v
 binary-closed Subtract t a b u v = wrapped-value t (valueOf t a -ℤ valueOf t b)
@@ -136,23 +136,23 @@ binary-closed ShiftLeft t a b u v = pick-value t (amountOut t b) 0 _ (zero-value
 binary-closed ShiftRightArithmetic t a b u v = arithmetic-closed t a b u
 binary-closed ShiftRightLogical t a b u v = pick-value t (amountOut t b) 0 _ (zero-value t) (wrapped-value t (pos (a % 2 ^ widthOf t / amountPower t b)))
 
-pub compare-closed : (d : Direction) (t : ElementType) (a b : ℕ) → Value I1 (compareOf d t a b)
+pub compare-closed : (d : Direction) (t : ElementType) (a b : ℕ) → SlotHolds I1 (compareOf d t a b)
 unfolding compareOf
 compare-closed d t a b = pick-value I1 (holds d t a b) 1 0 (ends I1 .one) (zero-value I1)
 
-pub clamp-closed : (t : ElementType) (min x max : ℕ) → Value t min → Value t x → Value t max → Value t (clampOf t min x max)
+pub clamp-closed : (t : ElementType) (min x max : ℕ) → SlotHolds t min → SlotHolds t x → SlotHolds t max → SlotHolds t (clampOf t min x max)
 unfolding clampOf
 clamp-closed t min x max u v w = minimum-reducible t .closed _ max (maximum-reducible t .closed x min v u) w
 
-pub select-closed : (t : ElementType) (pred a b : ℕ) → Value t a → Value t b → Value t (selectOf pred a b)
+pub select-closed : (t : ElementType) (pred a b : ℕ) → SlotHolds t a → SlotHolds t b → SlotHolds t (selectOf pred a b)
 unfolding selectOf
 select-closed t pred a b u v = pick-value t (eqb pred 0) b a v u
 
-pub convert-closed : (from to : ElementType) (a : ℕ) → Value to (convertOf from to a)
+pub convert-closed : (from to : ElementType) (a : ℕ) → SlotHolds to (convertOf from to a)
 unfolding convertOf
 convert-closed from to a =
     pick-value to (boolOf to) _ _ (pick-value to (eqb a 0) 0 1 (zero-value to) (ends to .one)) (wrapped-value to (valueOf from a))
 
-pub iota-closed : (t : ElementType) (k : ℕ) → Value t (iotaOf t k)
+pub iota-closed : (t : ElementType) (k : ℕ) → SlotHolds t (iotaOf t k)
 unfolding iotaOf
 iota-closed t k = wrapped-value t (pos k)

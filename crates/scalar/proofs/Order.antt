@@ -8,7 +8,7 @@ use lib.IntN.{ℤ, pos, negsuc}
 use lib.Signed.{ltZ, leZ, _≤ℤ_, _<ℤ_, ltZ-yes, ltZ-no, <ℤ-≤ℤ-trans, <ℤ-irrefl}
 use lib.Dec.{T, ltb→lt, le→leb, leb→le}
 use Rattle.lists.specs.Lists.{pick}
-use Rattle.element.specs.Types.{valueOf, slotOf, Value, lowestOf, highestOf}
+use Rattle.element.specs.Types.{valueOf, slotOf, SlotHolds, lowestOf, highestOf}
 use Rattle.element.specs.declared.ElementType.{ElementType}
 use Rattle.element.proofs.Slots.{slot-value}
 use Rattle.element.proofs.Range.{value-lt}
@@ -123,42 +123,42 @@ module _ (t : ElementType) where
       go true g = absurd (<ℤ-irrefl (<ℤ-≤ℤ-trans (below a b g) h))
       go false g = g
 
-  same-slot : (a b : ℕ) → Value t a → Value t b → valueOf t a ≤ℤ valueOf t b → valueOf t b ≤ℤ valueOf t a → a ≡ b
+  same-slot : (a b : ℕ) → SlotHolds t a → SlotHolds t b → valueOf t a ≤ℤ valueOf t b → valueOf t b ≤ℤ valueOf t a → a ≡ b
   same-slot a b x y h k = sym (slot-value t (value-lt t a x)) ∙ ap slotOf (antisym (valueOf t a) (valueOf t b) (h .le) (k .le)) ∙ slot-value t (value-lt t b y)
 
   -- of two values one at most is below the other, and two of which none is are one slot
   not-both : (a b : ℕ) → ltOf t a b ≡ true → ltOf t b a ≡ true → ⊥
   not-both a b e f = <ℤ-irrefl (<ℤ-≤ℤ-trans (below a b e) (<-le (below b a f)))
 
-  if-none : (a b : ℕ) → Value t a → Value t b → ltOf t a b ≡ false → ltOf t b a ≡ false → a ≡ b
+  if-none : (a b : ℕ) → SlotHolds t a → SlotHolds t b → ltOf t a b ≡ false → ltOf t b a ≡ false → a ≡ b
   if-none a b x y e f = same-slot a b x y (above b a f) (above a b e)
 
   -- no value is below the lowest or above the highest
-  none-below : (a : ℕ) → Value t a → ltOf t a (lowestOf t) ≡ false
+  none-below : (a : ℕ) → SlotHolds t a → ltOf t a (lowestOf t) ≡ false
   none-below a x = not-below a (lowestOf t) (between t a x .0)
 
-  none-above : (a : ℕ) → Value t a → ltOf t (highestOf t) a ≡ false
+  none-above : (a : ℕ) → SlotHolds t a → ltOf t (highestOf t) a ≡ false
   none-above a x = not-below (highestOf t) a (between t a x .1)
 
-pub maximum-reducible : (t : ElementType) → Reducible (Value t) (maximumOf t) (lowestOf t)
+pub maximum-reducible : (t : ElementType) → Reducible (SlotHolds t) (maximumOf t) (lowestOf t)
 unfolding maximumOf
 maximum-reducible t =
-    greater-reducible (ltOf t) (lt-trans t) (lt-cotrans t) (Value t) (lowestOf t) (ends t .lowest) (none-below t)
+    greater-reducible (ltOf t) (lt-trans t) (lt-cotrans t) (SlotHolds t) (lowestOf t) (ends t .lowest) (none-below t)
     (λ a x e. if-none t a (lowestOf t) x (ends t .lowest) (none-below t a x) e)
 
 -- the lesser is the greater by the opposite test
-pub minimum-reducible : (t : ElementType) → Reducible (Value t) (minimumOf t) (highestOf t)
+pub minimum-reducible : (t : ElementType) → Reducible (SlotHolds t) (minimumOf t) (highestOf t)
 unfolding minimumOf
 minimum-reducible t =
-    greater-reducible (λ a b. ltOf t b a) (λ a b c e f. lt-trans t c b a f e) (λ a b c e f. lt-cotrans t c b a f e) (Value t) (highestOf t) (ends t .highest)
+    greater-reducible (λ a b. ltOf t b a) (λ a b c e f. lt-trans t c b a f e) (λ a b c e f. lt-cotrans t c b a f e) (SlotHolds t) (highestOf t) (ends t .highest)
     (none-above t) (λ a x e. if-none t a (highestOf t) x (ends t .highest) e (none-above t a x))
 
 module _ (t : ElementType) where
-  pub maximum-comm : (a b : ℕ) → Value t a → Value t b → maximumOf t a b ≡ maximumOf t b a
+  pub maximum-comm : (a b : ℕ) → SlotHolds t a → SlotHolds t b → maximumOf t a b ≡ maximumOf t b a
   unfolding maximumOf
   maximum-comm a b x y = greater-comm (ltOf t) a b (not-both t a b) (if-none t a b x y)
 
-  pub minimum-comm : (a b : ℕ) → Value t a → Value t b → minimumOf t a b ≡ minimumOf t b a
+  pub minimum-comm : (a b : ℕ) → SlotHolds t a → SlotHolds t b → minimumOf t a b ≡ minimumOf t b a
   unfolding minimumOf
   minimum-comm a b x y = greater-comm (λ a b. ltOf t b a) a b (not-both t b a) (λ e f. if-none t a b x y f e)
 

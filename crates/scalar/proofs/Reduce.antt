@@ -6,7 +6,7 @@ use mathlib.Core.Bool.{Bool, true, false}
 use Prim.Native.Nat.{ℕ}
 use native.Mathlib.Omega.{arith}
 use lib.Bits.{and-comm, or-comm, xor-comm, and-self, or-self}
-use Rattle.element.specs.Types.{Value, boolOf}
+use Rattle.element.specs.Types.{SlotHolds, boolOf}
 use Rattle.element.specs.declared.ElementType.{ElementType}
 use Rattle.scalar.specs.Body.{bodyOf, identityOf, Reducible}
 use Rattle.scalar.specs.declared.Body.{Body}
@@ -15,7 +15,7 @@ use Rattle.scalar.proofs.Bitwise.{and-reducible, or-reducible, xor-redu
 use Rattle.scalar.proofs.Order.{maximum-reducible, minimum-reducible, maximum-comm, minimum-comm, maximum-self, minimum-self}
 use Rattle.scalar.proofs.Algebra.{add-reducible, multiply-reducible, add-comm, multiply-comm, add-self, multiply-self}
 
-pub body-reducible : (b : Body) (t : ElementType) → Reducible (Value t) (bodyOf b t) (identityOf b t)
+pub body-reducible : (b : Body) (t : ElementType) → Reducible (SlotHolds t) (bodyOf b t) (identityOf b t)
 body-reducible Add t = add-reducible t
 body-reducible Multiply t = multiply-reducible t
 body-reducible Maximum t = maximum-reducible t
@@ -24,10 +24,10 @@ body-reducible And t = and-reducible t
 body-reducible Or t = or-reducible t
 body-reducible Xor t = xor-reducible t
 
-pub body-closed : (b : Body) (t : ElementType) (a c : ℕ) → Value t a → Value t c → Value t (bodyOf b t a c)
+pub body-closed : (b : Body) (t : ElementType) (a c : ℕ) → SlotHolds t a → SlotHolds t c → SlotHolds t (bodyOf b t a c)
 body-closed b t = body-reducible b t .closed
 
-pub body-commutative : (b : Body) (t : ElementType) (a c : ℕ) → Value t a → Value t c → bodyOf b t a c ≡ bodyOf b t c a
+pub body-commutative : (b : Body) (t : ElementType) (a c : ℕ) → SlotHolds t a → SlotHolds t c → bodyOf b t a c ≡ bodyOf b t c a
 body-commutative Add t a c u v = add-comm t a c
 body-commutative Multiply t a c u v = multiply-comm t a c
 body-commutative Maximum t a c u v = maximum-comm t a c u v

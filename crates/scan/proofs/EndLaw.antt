@@ -9,7 +9,7 @@ use lib.Dec.{leb, eqb}
 use Rattle.lists.specs.Lists.{pick}
 use Rattle.scan.specs.Ascii.{ascii}
 use Rattle.scan.specs.Bytes.{byteAt, among, isLetter, isDigit, isSign, inRun, runFrom, runEnd, startsWith}
-use Rattle.scan.specs.TypeText.{byteEnd, wordEnd, digitsEnd, sizeNext, shapeFrom, shapeEnd, complexEnd}
+use Rattle.scan.specs.TypeText.{byteEnd, wordEnd, digitsEnd, sizeNext, shapeEndFrom, shapeEnd, complexEnd}
 use Rattle.scan.specs.Quantized.{signEnd, integerEnd, fractionEnd, scientificEnd, floatEnd, colonEnd, parameterEnd, moreEnd, parametersEnd, storageEnd, quantizedEnd}
 use Rattle.scan.specs.TensorText.{elementBy, elementEnd, typeClose}
 
@@ -22,8 +22,8 @@ unfolding runFrom
 run-from-ge letters n [] at h = h
 run-from-ge letters n (b ∷ bs) at h = pick-ge (inRun letters b) _ _ _ (run-from-ge letters n bs (suc at) (omega arith)) h
 
-shape-from-ge : (n : ℕ) (s : List ℕ) (end size at : ℕ) → n ≤ end → n ≤ at → n ≤ shapeFrom end size at s
-unfolding shapeFrom
+shape-from-ge : (n : ℕ) (s : List ℕ) (end size at : ℕ) → n ≤ end → n ≤ at → n ≤ shapeEndFrom end size at s
+unfolding shapeEndFrom
 shape-from-ge n [] end size at h g = h
 shape-from-ge n (b ∷ bs) end size at h g =
     let next = sizeNext size b in

@@ -11,18 +11,18 @@ use lib.Dec.{eqb}
 use lib.Seq.{drop-cons}
 use Rattle.lists.specs.Lists.{pick}
 use Rattle.scan.specs.Bytes.{byteAt}
-use Rattle.scan.specs.TypeText.{sizeNext, shapeFrom}
+use Rattle.scan.specs.TypeText.{sizeNext, shapeEndFrom}
 use Rattle.scan.specs.Quantized.{parameterEnd, moreEnd}
 
 module _ (text : List ℕ) (end size i : ℕ) where
-  pub shape-past : length text ≤ i → shapeFrom end size i (drop i text) ≡ end
-  unfolding shapeFrom
+  pub shape-past : length text ≤ i → shapeEndFrom end size i (drop i text) ≡ end
+  unfolding shapeEndFrom
   shape-past h = rw drop-of-length-le
 
-  pub shape-step : i < length text → shapeFrom end size i (drop i text) ≡
+  pub shape-step : i < length text → shapeEndFrom end size i (drop i text) ≡
       (let next = sizeNext size (getD text i 0) in
-      pick (eqb next 3) end (shapeFrom (pick (eqb next 0) (i + 1) end) next (i + 1) (drop (i + 1) text)))
-  unfolding shapeFrom
+      pick (eqb next 3) end (shapeEndFrom (pick (eqb next 0) (i + 1) end) next (i + 1) (drop (i + 1) text)))
+  unfolding shapeEndFrom
   shape-step h = rw (add-one, drop-cons text i 0)
 
 pub more-step : (n : ℕ) (text : List ℕ) (at : ℕ) → 0 < n → moreEnd n text at ≡

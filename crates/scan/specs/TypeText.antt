@@ -30,15 +30,15 @@ sizeNext size b =
     (pick (eqb b 120) 0 3))
 
 -- the end of the last whole dimension, where end is that of the one before
-unfoldable pub shapeFrom : ℕ → ℕ → ℕ → List ℕ → ℕ
-shapeFrom end size at [] = end
-shapeFrom end size at (b ∷ bs) =
+unfoldable pub shapeEndFrom : ℕ → ℕ → ℕ → List ℕ → ℕ
+shapeEndFrom end size at [] = end
+shapeEndFrom end size at (b ∷ bs) =
     let next = sizeNext size b in
-    let rest = shapeFrom (pick (eqb next 0) (suc at) end) next (suc at) bs in
+    let rest = shapeEndFrom (pick (eqb next 0) (suc at) end) next (suc at) bs in
     pick (eqb next 3) end rest
 
 unfoldable pub shapeEnd : List ℕ → ℕ → ℕ
-shapeEnd text at = shapeFrom at 0 at (drop at text)
+shapeEnd text at = shapeEndFrom at 0 at (drop at text)
 
 -- ComplexType ::= 'complex' '<' ComplexElementType '>', after '<'; the element's name is any word
 unfoldable pub complexEnd : List ℕ → ℕ → ℕ

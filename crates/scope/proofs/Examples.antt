@@ -11,7 +11,7 @@ use Rattle.text.specs.Names.{wordIs, sameBytes, nameBytes, sameName}
 use Rattle.syntax.specs.Readings.{readingsFrom, readingsOf}
 use Rattle.scan.specs.Ascii.{ascii}
 use Rattle.scan.specs.Bytes.{isLetter, isDigit, isSpace, isSigil, isSign, inRun, runFrom, runEnd, startsWith, inComment, skipFrom, skipEnd}
-use Rattle.scan.specs.TypeText.{byteEnd, wordEnd, digitsEnd, sizeNext, shapeFrom, shapeEnd, complexEnd}
+use Rattle.scan.specs.TypeText.{byteEnd, wordEnd, digitsEnd, sizeNext, shapeEndFrom, shapeEnd, complexEnd}
 use Rattle.scan.specs.Quantized.{signEnd, integerEnd, fractionEnd, scientificEnd, floatEnd, colonEnd, parameterEnd, moreEnd, parametersEnd, storageEnd, quantizedEnd}
 use Rattle.scan.specs.TensorText.{elementEnd, typeClose}
 use Rattle.text.specs.Lex.{markToken, nameEnd, nameToken, signToken, quoteToken, plainWord, tensorToken, wordToken, lexeme, tokenAt}
@@ -83,7 +83,7 @@ cases =
     []
 
 examples : T (right cases)
-unfolding cases nameAt sameAt defines visible define look settle forget begins ends placed turned namesFrom namesOf inputsFrom sameBytes nameBytes sameName readingsOf readingsFrom kindOf tokenKind markKind nameKind wordKind quotedKind wordIs grammar leafKinds matches cell step isLetter isDigit isSpace isSigil isSign inRun runFrom runEnd startsWith inComment skipFrom skipEnd byteEnd wordEnd digitsEnd sizeNext shapeFrom shapeEnd complexEnd signEnd integerEnd fractionEnd scientificEnd floatEnd colonEnd parameterEnd moreEnd parametersEnd storageEnd quantizedEnd elementEnd typeClose markToken nameEnd nameToken signToken quoteToken plainWord tensorToken wordToken lexeme tokenAt
+unfolding cases nameAt sameAt defines visible define look settle forget begins ends placed turned namesFrom namesOf inputsFrom sameBytes nameBytes sameName readingsOf readingsFrom kindOf tokenKind markKind nameKind wordKind quotedKind wordIs grammar leafKinds matches cell step isLetter isDigit isSpace isSigil isSign inRun runFrom runEnd startsWith inComment skipFrom skipEnd byteEnd wordEnd digitsEnd sizeNext shapeEndFrom shapeEnd complexEnd signEnd integerEnd fractionEnd scientificEnd floatEnd colonEnd parameterEnd moreEnd parametersEnd storageEnd quantizedEnd elementEnd typeClose markToken nameEnd nameToken signToken quoteToken plainWord tensorToken wordToken lexeme tokenAt
 examples = tt
 
 -- in a text of at most 65,536 bytes the three kinds of entries are apart

@@ -25,7 +25,7 @@ use Rattle.syntax.specs.Readings.{Reading, reading, readingsFrom, readingsOf}
 use Rattle.syntax.proofs.ReadingLaw.{Room}
 use Rattle.scope.specs.declared.Names.{Names}
 use Rattle.scope.specs.Scope.{Scope, scope, fault, faultOf, andThen, body, waitingName, defines, visible, define, settle, forget, begins, ends, placed, turned, namesFrom, inputsFrom}
-use Rattle.scope.specs.Scoped.{answered, Scoped, waitingCount}
+use Rattle.scope.specs.Scoped.{answered, ScopeAnswered, waitingCount}
 
 module _ (l : List ℕ) (i : ℕ) where
   pub visible-next : (text : List ℕ) (a : ℕ) → i < length l → visible text a (drop i l) ≡ pick (defines text (getD l i 0) a) true (visible text a (drop (i + 1) l))
@@ -180,12 +180,12 @@ refused : (r : Names) (entries : List ℕ) (f : List ℕ → Scope) → r .refus
 unfolding answered
 refused r entries f e = rw (ne-eqb _ _ e)
 
-pub rescope : {s z : Scope} {k j : ℕ} {before : List ℕ} {top : ℕ} {r : Names} {after : List ℕ} → s ≡ z → k ≤ j → Scoped s k before top r after → Scoped z j before top r after
+pub rescope : {s z : Scope} {k j : ℕ} {before : List ℕ} {top : ℕ} {r : Names} {after : List ℕ} → s ≡ z → k ≤ j → ScopeAnswered s k before top r after → ScopeAnswered z j before top r after
 rescope e h t = let m = t .room in record { answer = t .answer ∙ e; size = t .size; room = omega arith; within = t .within }
 
 -- a name put on top
 pub pushed : (l : List ℕ) (top entry : ℕ) → 1 ≤ top → top ≤ length l →
-    Scoped (scope (entry ∷ drop top l)) 1 l top (record { refusal = 0; a = 0; top = top - 1 }) (set l (top - 1) entry)
+    ScopeAnswered (scope (entry ∷ drop top l)) 1 l top (record { refusal = 0; a = 0; top = top - 1 }) (set l (top - 1) entry)
 unfolding answered
 pushed l top entry h g =
     let e : top - 1 + 1 ≡ top = omega arith in
@@ -193,8 +193,8 @@ pushed l top entry h g =
     let p = drop-put l (top - 1) entry (omega arith) in
     record { answer = rw (p, e); size = n; room = omega arith; within = omega arith }
 
-module _ {s : Scope} {k : ℕ} {before : List ℕ} {top : ℕ} {r : Names} {middle : List ℕ} (t : Scoped s k before top r middle) (f : List ℕ → Scope) where
-  pub goes-on : {j : ℕ} {z : Names} {after : List ℕ} → r .refusal ≡ 0 → Scoped (f (drop (r .top) middle)) j middle (r .top) z after → Scoped (andThen s f) (k + j) before top z after
+module _ {s : Scope} {k : ℕ} {before : List ℕ} {top : ℕ} {r : Names} {middle : List ℕ} (t : ScopeAnswered s k before top r middle) (f : List ℕ → Scope) where
+  pub goes-on : {j : ℕ} {z : Names} {after : List ℕ} → r .refusal ≡ 0 → ScopeAnswered (f (drop (r .top) middle)) j middle (r .top) z after → ScopeAnswered (andThen s f) (k + j) before top z after
   goes-on e n =
       let a = t .room in
       let b = n .room in
@@ -205,11 +205,11 @@ module _ {s : Scope} {k : ℕ} {before : List ℕ} {top : ℕ} {r : Names} {midd
         within = n .within;
       }
 
-  pub stops : r .refusal ≢ 0 → Scoped (andThen s f) k before top r middle
+  pub stops : r .refusal ≢ 0 → ScopeAnswered (andThen s f) k before top r middle
   stops e = record { answer = sym (refused r middle f e) ∙ ap (λ x. andThen x f) (t .answer); size = t .size; room = t .room; within = t .within }
 
 -- the fault does not depend on the entries
-pub said : {s : Scope} {k : ℕ} {before : List ℕ} {top : ℕ} {r : Names} {after : List ℕ} → Scoped s k before top r after → faultOf (answered r []) ≡ faultOf s
+pub said : {s : Scope} {k : ℕ} {before : List ℕ} {top : ℕ} {r : Names} {after : List ℕ} → ScopeAnswered s k before top r after → faultOf (answered r []) ≡ faultOf s
 unfolding answered faultOf
 said {r} {after} g = go (eqb (r .refusal) 0) ∙ ap faultOf (g .answer)
   where
@@ -268,7 +268,7 @@ pub record Naming (target : Scope) (text first : List ℕ) (top : ℕ) (stack : 
 
 module _ {target : Scope} {text first : List ℕ} {top : ℕ} {stack : List ℕ} {next place left before : ℕ} {n : Names} {entries : List ℕ} (g : Naming target text first top stack next place left before n entries) where
   pub naming-end : (xs : List Reading) → readingsFrom left (drop next stack) text place ≡ xs → namesFrom text before (drop (n .top) entries) xs ≡ scope (drop (n .top) entries) →
-      Scoped target (length text + 1) first top n entries
+      ScopeAnswered target (length text + 1) first top n entries
   naming-end xs e q =
       let u = g .used in
       record {
@@ -279,7 +279,7 @@ module _ {target : Scope} {text first : List ℕ} {top : ℕ} {stack : List ℕ}
       }
 
   module _ (role : ℕ) (t : Token) (rest : List Reading) (e : readingsFrom left (drop next stack) text place ≡ reading true role t ∷ rest) {z : Names} {after : List ℕ}
-      (s : Scoped (turned text before role (t .start) (drop (n .top) entries)) 1 entries (n .top) z after) (some : 0 < left) where
+      (s : ScopeAnswered (turned text before role (t .start) (drop (n .top) entries)) 1 entries (n .top) z after) (some : 0 < left) where
     whole : andThen (answered z after) (λ es. namesFrom text role es rest) ≡ target
     whole =
         ap (λ x. andThen x (λ es. namesFrom text role es rest)) (s .answer) ∙
@@ -287,7 +287,7 @@ module _ {target : Scope} {text first : List ℕ} {top : ℕ} {stack : List ℕ}
         ap (namesFrom text before (drop (n .top) entries)) (sym e) ∙
         g .same
 
-    pub naming-fault : z .refusal ≢ 0 → Scoped target (length text + 1) first top z after
+    pub naming-fault : z .refusal ≢ 0 → ScopeAnswered target (length text + 1) first top z after
     naming-fault h =
         let u = g .used in
         let m = s .room in
@@ -330,17 +330,17 @@ pub record Inputs (text first : List ℕ) (top : ℕ) (places : List ℕ) (i : �
   pub inside : i ≤ length places
 
 module _ {text first : List ℕ} {top : ℕ} {places : List ℕ} {i : ℕ} {n : Names} {entries : List ℕ} (g : Inputs text first top places i n entries) where
-  pub inputs-done : length places ≤ i → Scoped (inputsFrom text (drop top first) places) (length places) first top n entries
+  pub inputs-done : length places ≤ i → ScopeAnswered (inputsFrom text (drop top first) places) (length places) first top n entries
   inputs-done h =
       let u = g .used in
       let d = g .inside in
       record { answer = fine n entries (g .sound) ∙ sym (inputs-end text _ places i h) ∙ g .same; size = g .size; room = omega arith; within = g .within }
 
-  module _ {z : Names} {after : List ℕ} (h : i < length places) (s : Scoped (define text (getD places i 0) (drop (n .top) entries)) 1 entries (n .top) z after) where
+  module _ {z : Names} {after : List ℕ} (h : i < length places) (s : ScopeAnswered (define text (getD places i 0) (drop (n .top) entries)) 1 entries (n .top) z after) where
     all : andThen (answered z after) (λ es. inputsFrom text es (drop (i + 1) places)) ≡ inputsFrom text (drop top first) places
     all = ap (λ x. andThen x (λ es. inputsFrom text es (drop (i + 1) places))) (s .answer) ∙ sym (inputs-next text (drop (n .top) entries) places i h) ∙ g .same
 
-    pub inputs-fault : z .refusal ≢ 0 → Scoped (inputsFrom text (drop top first) places) (length places) first top z after
+    pub inputs-fault : z .refusal ≢ 0 → ScopeAnswered (inputsFrom text (drop top first) places) (length places) first top z after
     inputs-fault e =
         let u = g .used in
         let m = s .room in

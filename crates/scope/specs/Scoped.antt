@@ -13,7 +13,7 @@ unfoldable pub answered : Names → List ℕ → Scope
 answered r entries = pick (eqb (r .refusal) 0) (scope (drop (r .top) entries)) (fault (r .refusal) (r .a))
 
 -- the answer is s, and at most k entries were added
-pub record Scoped (s : Scope) (k : ℕ) (before : List ℕ) (top : ℕ) (r : Names) (after : List ℕ) : Type 0 where
+pub record ScopeAnswered (s : Scope) (k : ℕ) (before : List ℕ) (top : ℕ) (r : Names) (after : List ℕ) : Type 0 where
   pub answer : answered r after ≡ s
   pub size : length after ≡ length before
   pub room : top ≤ r .top + k

@@ -13,7 +13,7 @@ ghost use lib.ListN.{length, drop};
 ghost use Rattle.grammar.specs.Symbols.{Op};
 ghost use Rattle.syntax.specs.Readings.{readingsOf};
 ghost use Rattle.scope.specs.Scope.{scope, nameAt, sameAt, defines, visible, define, look, settle, begins, ends, placed, turned, namesFrom, namesOf, inputsFrom, faultOf};
-ghost use Rattle.scope.specs.Scoped.{answered, Scoped, Forgotten, waitingCount};
+ghost use Rattle.scope.specs.Scoped.{answered, ScopeAnswered, Forgotten, waitingCount};
 
 // The opening of a body among the entries. Below it an entry is a defined name, above it a waiting one.
 const BODY: usize = 131072;
@@ -85,7 +85,7 @@ fn is_visible(text: &[u8], a: usize, entries: &[usize], top: usize) -> bool
 
 fn push(entry: usize, entries: &mut [usize], top: usize) -> Names
     requires { ⌜ (1 ≤ top) × (top ≤ length (now entries)) ⌝ }
-    ensures { λ r. ⌜ Scoped (scope (entry ∷ drop top (now (entries .entry)))) 1 (now (entries .entry)) top r (now (entries .exit)) ⌝ }
+    ensures { λ r. ⌜ ScopeAnswered (scope (entry ∷ drop top (now (entries .entry)))) 1 (now (entries .entry)) top r (now (entries .exit)) ⌝ }
 {
     entries[top - 1] = entry;
     Names {
@@ -97,7 +97,7 @@ fn push(entry: usize, entries: &mut [usize], top: usize) -> Names
 
 fn define_name(text: &[u8], a: usize, entries: &mut [usize], top: usize) -> Names
     requires { ⌜ (1 ≤ top) × (top ≤ length (now entries)) ⌝ }
-    ensures { λ r. ⌜ Scoped (define (now (text .entry)) a (drop top (now (entries .entry)))) 1 (now (entries .entry)) top r (now (entries .exit)) ⌝ }
+    ensures { λ r. ⌜ ScopeAnswered (define (now (text .entry)) a (drop top (now (entries .entry)))) 1 (now (entries .entry)) top r (now (entries .exit)) ⌝ }
 {
     if is_visible(text, a, entries, top) {
         return Names {
@@ -111,7 +111,7 @@ fn define_name(text: &[u8], a: usize, entries: &mut [usize], top: usize) -> Name
 
 fn look_up(text: &[u8], a: usize, entries: &[usize], top: usize) -> Names
     requires { ⌜ top ≤ length (now entries) ⌝ }
-    ensures { λ r. ⌜ Scoped (look (now (text .entry)) a (drop top (now (entries .entry)))) 0 (now (entries .entry)) top r (now (entries .entry)) ⌝ }
+    ensures { λ r. ⌜ ScopeAnswered (look (now (text .entry)) a (drop top (now (entries .entry)))) 0 (now (entries .entry)) top r (now (entries .entry)) ⌝ }
 {
     if is_visible(text, a, entries, top) {
         return Names {
@@ -145,7 +145,7 @@ fn waiting_end(entries: &[usize], top: usize) -> usize
 // Defines the waiting names on top from the lowest up.
 fn settle_names(text: &[u8], entries: &mut [usize], top: usize) -> Names
     requires { ⌜ top ≤ length (now entries) ⌝ }
-    ensures { λ r. ⌜ Scoped (settle (now (text .entry)) (drop top (now (entries .entry)))) 0 (now (entries .entry)) top r (now (entries .exit)) ⌝ }
+    ensures { λ r. ⌜ ScopeAnswered (settle (now (text .entry)) (drop top (now (entries .entry)))) 0 (now (entries .entry)) top r (now (entries .exit)) ⌝ }
 {
     let mut k = waiting_end(entries, top);
     while k > top {
@@ -216,7 +216,7 @@ fn ends_op(previous: u8, role: u8) -> bool
 // One token of this role at byte a.
 fn place_name(text: &[u8], role: u8, a: usize, entries: &mut [usize], top: usize) -> Names
     requires { ⌜ (1 ≤ top) × (top ≤ length (now entries)) × (a ≤ 65536) ⌝ }
-    ensures { λ r. ⌜ Scoped (placed (now (text .entry)) role a (drop top (now (entries .entry)))) 1 (now (entries .entry)) top r (now (entries .exit)) ⌝ }
+    ensures { λ r. ⌜ ScopeAnswered (placed (now (text .entry)) role a (drop top (now (entries .entry)))) 1 (now (entries .entry)) top r (now (entries .exit)) ⌝ }
 {
     if role == Role::INPUT_NAME {
         return define_name(text, a, entries, top);
@@ -250,7 +250,7 @@ fn place_name(text: &[u8], role: u8, a: usize, entries: &mut [usize], top: usize
 // The same, after the results of an op that ends before the token.
 fn turn(text: &[u8], previous: u8, role: u8, a: usize, entries: &mut [usize], top: usize) -> Names
     requires { ⌜ (1 ≤ top) × (top ≤ length (now entries)) × (a ≤ 65536) ⌝ }
-    ensures { λ r. ⌜ Scoped (turned (now (text .entry)) previous role a (drop top (now (entries .entry)))) 1 (now (entries .entry)) top r (now (entries .exit)) ⌝ }
+    ensures { λ r. ⌜ ScopeAnswered (turned (now (text .entry)) previous role a (drop top (now (entries .entry)))) 1 (now (entries .entry)) top r (now (entries .exit)) ⌝ }
 {
     if ends_op(previous, role) {
         let s = settle_names(text, entries, top);
@@ -265,7 +265,7 @@ fn turn(text: &[u8], previous: u8, role: u8, a: usize, entries: &mut [usize], to
 // The tokens of the op whose first is at or after byte at.
 fn read_names(text: &[u8], at: usize, stack: &mut [u8], entries: &mut [usize], top: usize) -> Names
     requires { ⌜ (length (now text) ≤ 65536) × (length (now stack) ≡ 655380) × (at ≤ length (now text)) × (length (now text) + 1 ≤ top) × (top ≤ length (now entries)) ⌝ }
-    ensures { λ r. ⌜ Scoped (namesFrom (now (text .entry)) 0 (drop top (now (entries .entry))) (readingsOf Op (now (text .entry)) at)) (length (now (text .entry)) + 1) (now (entries .entry)) top r (now (entries .exit)) ⌝ }
+    ensures { λ r. ⌜ ScopeAnswered (namesFrom (now (text .entry)) 0 (drop top (now (entries .entry))) (readingsOf Op (now (text .entry)) at)) (length (now (text .entry)) + 1) (now (entries .entry)) top r (now (entries .exit)) ⌝ }
 {
     let mut n = Names {
         refusal: 0,
@@ -299,7 +299,7 @@ fn read_names(text: &[u8], at: usize, stack: &mut [u8], entries: &mut [usize], t
 // The entries after the op whose first token is at or after byte at; past the end of the text there is none.
 fn after_op(text: &[u8], at: usize, stack: &mut [u8], entries: &mut [usize], top: usize) -> Names
     requires { ⌜ (length (now text) ≤ 65536) × (length (now stack) ≡ 655380) × (length (now text) + 1 ≤ top) × (top ≤ length (now entries)) ⌝ }
-    ensures { λ r. ⌜ Scoped (namesOf (now (text .entry)) at (drop top (now (entries .entry)))) (length (now (text .entry)) + 1) (now (entries .entry)) top r (now (entries .exit)) ⌝ }
+    ensures { λ r. ⌜ ScopeAnswered (namesOf (now (text .entry)) at (drop top (now (entries .entry)))) (length (now (text .entry)) + 1) (now (entries .entry)) top r (now (entries .exit)) ⌝ }
 {
     if at > text.len() {
         return settle_names(text, entries, top);
@@ -328,7 +328,7 @@ pub fn names_in(
 // The entries after the inputs' names, at these places.
 fn after_inputs(text: &[u8], places: &[usize], entries: &mut [usize], top: usize) -> Names
     requires { ⌜ (length (now places) ≤ top) × (top ≤ length (now entries)) ⌝ }
-    ensures { λ r. ⌜ Scoped (inputsFrom (now (text .entry)) (drop top (now (entries .entry))) (now (places .entry))) (length (now (places .entry))) (now (entries .entry)) top r (now (entries .exit)) ⌝ }
+    ensures { λ r. ⌜ ScopeAnswered (inputsFrom (now (text .entry)) (drop top (now (entries .entry))) (now (places .entry))) (length (now (places .entry))) (now (entries .entry)) top r (now (entries .exit)) ⌝ }
 {
     let mut n = Names {
         refusal: 0,

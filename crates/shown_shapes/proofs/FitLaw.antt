@@ -14,7 +14,7 @@ use Rattle.shape.specs.Dims.{dimsOf, Sized}
 use Rattle.shape.specs.Place.{placeIn}
 use Rattle.shape.specs.Whole.{ceilDiv}
 use Rattle.shape.specs.declared.Shape.{Shape}
-use Rattle.maps.specs.Holds.{Stretches, IotaHolds, TransposeHolds, SliceHolds, PadHolds, DynamicSliceHolds, ConcatenateHolds, Inputs}
+use Rattle.maps.specs.Holds.{Stretches, IotaHolds, TransposeHolds, SliceHolds, PadHolds, DynamicSliceHolds, ConcatenateHolds, InputsLaid}
 use Rattle.maps.specs.Concatenation.{noShape}
 use Rattle.reduction.specs.Rows as rows
 use Rattle.shown_shapes.specs.Fit.{Fit, Few, IsAlong, transposeAt, IsTranspose, sliceAt, IsSlice, IsPad, IsDynamic, inputAt, sameBut, allSameBut, AreInputs, IsConcatenation}
@@ -98,7 +98,7 @@ module _ (x : List ℕ) (shapes : List Shape) (places : List ℕ) (count : ℕ) 
       let q = both _ _ (p .0) in
       (q .0, q .1, p .1)
 
-  pub inputs : Inputs x shapes places count
+  pub inputs : InputsLaid x shapes places count
   inputs =
       record {
         few = leb-true _ _ (h .0);

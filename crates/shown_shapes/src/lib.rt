@@ -6,7 +6,7 @@ ghost use Rattle.shape.specs.Index.{size};
 ghost use Rattle.shape.specs.Dims.{dimsOf};
 ghost use Rattle.shape.specs.Whole.{numberOf};
 ghost use Rattle.maps.specs.Formulas.{reshaped, broadcasted, transposed, sliced, reversed, padded, dynamicSliced, counted};
-ghost use Rattle.maps.specs.Concatenation.{shapesOf, inputsOf, concatenated};
+ghost use Rattle.maps.specs.Concatenation.{shapesOf, inputsIn, concatenated};
 ghost use Rattle.reduction.specs.Rows.{reduced};
 ghost use Rattle.shown_shapes.specs.Fit.{Fit, Few, IsAlong, IsTranspose, IsSlice, IsPad, IsDynamic, AreInputs, IsConcatenation};
 use element::ElementType;
@@ -155,7 +155,7 @@ pub fn concatenate(
     out: &mut [u64],
 )
     requires { ⌜ Fit to (now out) × AreInputs (now x) shapes places count × IsConcatenation dimension (shapesOf shapes count) (dimsOf to) ⌝ }
-    ensures { λ _. ⌜ now (out .exit) ≡ concatenated dimension (shapesOf shapes count) (inputsOf (now (x .entry)) shapes places count) (dimsOf to) ⌝ }
+    ensures { λ _. ⌜ now (out .exit) ≡ concatenated dimension (shapesOf shapes count) (inputsIn (now (x .entry)) shapes places count) (dimsOf to) ⌝ }
 {
     maps::concatenate(x, dimension, shapes, places, count, to, out);
     show(name, out);

@@ -14,7 +14,7 @@ use Rattle.types.specs.Tensors.{typeOf}
 use Rattle.grammar.specs.Symbols.{InputType, OpName, ResultType}
 use Rattle.syntax.specs.Readings.{Reading}
 use Rattle.judge.specs.declared.tally.Tally.{Tally}
-use Rattle.judge.specs.Tally.{atStart, counts, elementsAt, opsAfter, depthAfter as tallyDepth, afterToken}
+use Rattle.judge.specs.Tally.{atStart, counts, elementsAt, opsAfter, tallyDepth, afterToken}
 use Rattle.program.specs.Parts.{depthAfter}
 use Rattle.reading_laws.proofs.TallyLaw.{tallyAfter}
 use Rattle.size_laws.specs.SizeSentences.{turnedOnto, latestFirst, ofRole, openBodies, countedType, typeElements, elementsThrough}

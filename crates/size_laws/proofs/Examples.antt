@@ -7,15 +7,15 @@ use Prim.Native.Nat.{ℕ, zero, suc}
 use Rattle.lists.specs.Lists.{firstWhere}
 use Rattle.scan.specs.Ascii.{ascii}
 use Rattle.scan.specs.Bytes.{isLetter, isDigit, inRun, runFrom, runEnd, startsWith}
-use Rattle.scan.specs.TypeText.{byteEnd, wordEnd, digitsEnd, sizeNext, shapeFrom, shapeEnd, complexEnd}
+use Rattle.scan.specs.TypeText.{byteEnd, wordEnd, digitsEnd, sizeNext, shapeEndFrom, shapeEnd, complexEnd}
 use Rattle.scan.specs.Quantized.{signEnd, integerEnd, fractionEnd, scientificEnd, floatEnd, colonEnd, parameterEnd, moreEnd, parametersEnd, storageEnd, quantizedEnd}
 use Rattle.scan.specs.TensorText.{elementEnd, typeClose}
 use Rattle.text.specs.Names.{wordIs}
-use Rattle.types.specs.Tensors.{widthNamed, elementNamed, dimensionsFrom, countOf, allFit, sizePassed, typed, foreign, typeAfter, typeOf}
+use Rattle.types.specs.Tensors.{widthNamed, elementNamed, dimensionsFrom, byteCount, allFit, typeSizePassed, typed, foreign, typeAfter, typeOf}
 use Rattle.grammar.specs.Symbols.{InputName, InputType, OpName, OperandName, ResultType, BodyOpen, BodyClose, ListNumber, lparen, comma, colon}
 use Rattle.syntax.specs.Readings.{Reading, reading}
-use Rattle.judge.specs.Roles.{among}
-use Rattle.judge.specs.Tally.{itemNumber, counts, elementsAt, itemsAfter, opsAfter, depthAfter, afterToken}
+use Rattle.judge.specs.Roles.{amongRoles}
+use Rattle.judge.specs.Tally.{itemNumber, counts, elementsAt, itemsAfter, opsAfter, tallyDepth, afterToken}
 use Rattle.judge.specs.Sizes.{manyElements, manyOps, manyItems, longList}
 use Rattle.size_laws.specs.SizeSentences.{ofRole, elementsThrough, itemsBefore}
 use Rattle.size_laws.proofs.CountedLaw.{tallyOf}
@@ -52,17 +52,17 @@ ops-limit = record { last = refl; kept = refl; next = refl; passed = refl }
 
 -- the eighth operand and the ninth
 operands-limit : Limit (itemsBefore OperandName) (λ l. manyItems (tallyOf [] l) OperandName) (listed OperandName 7) (listed OperandName 8) 7
-unfolding listed among manyItems afterToken itemNumber itemsAfter
+unfolding listed amongRoles manyItems afterToken itemNumber itemsAfter
 operands-limit = record { last = refl; kept = refl; next = refl; passed = refl }
 
 -- the eighth input and the ninth
 inputs-limit : Limit (itemsBefore InputName) (λ l. manyItems (tallyOf [] l) InputName) (inputs 7) (inputs 8) 7
-unfolding inputs among manyItems afterToken itemNumber itemsAfter
+unfolding inputs amongRoles manyItems afterToken itemNumber itemsAfter
 inputs-limit = record { last = refl; kept = refl; next = refl; passed = refl }
 
 -- the sixth number of a list and the seventh
 numbers-limit : Limit (itemsBefore ListNumber) (λ l. longList (tallyOf [] l) ListNumber) (listed ListNumber 5) (listed ListNumber 6) 5
-unfolding listed among longList afterToken itemNumber itemsAfter
+unfolding listed amongRoles longList afterToken itemNumber itemsAfter
 numbers-limit = record { last = refl; kept = refl; next = refl; passed = refl }
 
 -- 4,096 elements at byte 0, one at byte 15
@@ -74,10 +74,10 @@ full : List Reading
 full = one BodyClose 0 ∷ one ResultType 0 ∷ one BodyOpen 0 ∷ one ResultType 0 ∷ one InputType 0 ∷ []
 
 elements-limit : (elementsThrough types full ≡ 8192) × (manyElements types (tallyOf types full) OpName (one OpName 0 .token) ≡ false)
-unfolding types full firstWhere isLetter isDigit inRun runFrom runEnd startsWith byteEnd wordEnd digitsEnd sizeNext shapeFrom shapeEnd complexEnd signEnd integerEnd fractionEnd scientificEnd floatEnd colonEnd parameterEnd moreEnd parametersEnd storageEnd quantizedEnd elementEnd typeClose wordIs widthNamed elementNamed dimensionsFrom countOf allFit sizePassed typed foreign typeAfter typeOf manyElements afterToken elementsAt counts depthAfter
+unfolding types full firstWhere isLetter isDigit inRun runFrom runEnd startsWith byteEnd wordEnd digitsEnd sizeNext shapeEndFrom shapeEnd complexEnd signEnd integerEnd fractionEnd scientificEnd floatEnd colonEnd parameterEnd moreEnd parametersEnd storageEnd quantizedEnd elementEnd typeClose wordIs widthNamed elementNamed dimensionsFrom byteCount allFit typeSizePassed typed foreign typeAfter typeOf manyElements afterToken elementsAt counts tallyDepth
 elements-limit = (refl, refl)
 
 -- one element more
 elements-beyond : (elementsThrough types (one ResultType 15 ∷ full) ≡ 8193) × (manyElements types (tallyOf types full) ResultType (one ResultType 15 .token) ≡ true)
-unfolding types full firstWhere isLetter isDigit inRun runFrom runEnd startsWith byteEnd wordEnd digitsEnd sizeNext shapeFrom shapeEnd complexEnd signEnd integerEnd fractionEnd scientificEnd floatEnd colonEnd parameterEnd moreEnd parametersEnd storageEnd quantizedEnd elementEnd typeClose wordIs widthNamed elementNamed dimensionsFrom countOf allFit sizePassed typed foreign typeAfter typeOf manyElements afterToken elementsAt counts depthAfter
+unfolding types full firstWhere isLetter isDigit inRun runFrom runEnd startsWith byteEnd wordEnd digitsEnd sizeNext shapeEndFrom shapeEnd complexEnd signEnd integerEnd fractionEnd scientificEnd floatEnd colonEnd parameterEnd moreEnd parametersEnd storageEnd quantizedEnd elementEnd typeClose wordIs widthNamed elementNamed dimensionsFrom byteCount allFit typeSizePassed typed foreign typeAfter typeOf manyElements afterToken elementsAt counts tallyDepth
 elements-beyond = (refl, refl)

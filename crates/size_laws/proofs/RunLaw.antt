@@ -8,7 +8,7 @@ use native.Mathlib.Omega.{arith}
 use Rattle.grammar.specs.Symbols.{InputName, ArgumentName, comma}
 use Rattle.syntax.specs.Readings.{Reading, readings}
 use Rattle.syntax.specs.Roles.{rolesOf}
-use Rattle.judge.specs.Roles.{among, itemRoles}
+use Rattle.judge.specs.Roles.{amongRoles, itemRoles}
 use Rattle.size_laws.specs.SizeSentences.{turnedOnto, latestFirst, itemTail, listRoles, itemsBefore, itemsRun, ListSoFar}
 use Rattle.size_laws.proofs.WindowLaw.{windowed-each}
 use Rattle.size_laws.proofs.ItemsLaw.{Listed, nothing, begins, bare, input, argument, item-listed}
@@ -61,7 +61,7 @@ so-far {role} (begins y rest f) =
       run = [];
       whole = sym (append-nil (latestFirst (y ∷ rest)));
       items = refl;
-      starts = λ others z e. subst (λ (w : Reading). among (listRoles role) (w .role) ≡ false) (last-same others (latestFirst rest) z y (sym (onto-append (y ∷ []) rest) ∙ e)) f;
+      starts = λ others z e. subst (λ (w : Reading). amongRoles (listRoles role) (w .role) ≡ false) (last-same others (latestFirst rest) z y (sym (onto-append (y ∷ []) rest) ∙ e)) f;
     }
 so-far {role} (bare {n = n} c a {rest} t e f l) =
     subst (λ (b : List Reading). ListSoFar role (suc n) b) (sym (onto-append (a ∷ c ∷ []) rest))
@@ -74,7 +74,7 @@ so-far (argument {n = n} c t m a {rest} e f g h l) =
     (one-more ArgumentName n (latestFirst rest) (a ∷ m ∷ t ∷ c ∷ []) (rw (e, f, g, h)) (so-far l))
 
 -- sizes 5 and 6 count the items of the list that the token is an item of
-pub list-so-far : (text : List ℕ) (before : List Reading) (x : Reading) (after : List Reading) → readings text ≡ before ++ (x ∷ after) → x .fits ≡ true → among itemRoles (x .role) ≡ true →
+pub list-so-far : (text : List ℕ) (before : List Reading) (x : Reading) (after : List Reading) → readings text ≡ before ++ (x ∷ after) → x .fits ≡ true → amongRoles itemRoles (x .role) ≡ true →
     ListSoFar (x .role) (itemsBefore (x .role) (latestFirst before)) before
 list-so-far text before x after e f i =
     subst (λ (b : List Reading). ListSoFar (x .role) (itemsBefore (x .role) (latestFirst before)) b) (turned-twice before)

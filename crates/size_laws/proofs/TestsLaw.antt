@@ -22,13 +22,13 @@ use Rattle.element.specs.declared.ElementType.{ElementType}
 use Rattle.element.specs.declared.ElementType.the-variants.{I64}
 use Rattle.types.specs.declared.tensors.TypeRead.{TypeRead}
 use Rattle.types.specs.declared.numbers.Number.{Number}
-use Rattle.types.specs.Tensors.{elementNamed, stretch, dimensionsFrom, countOf, allFit, sizePassed as typeSizePassed, typed, foreign, typeAfter, typeOf}
-use Rattle.types.specs.Numbers.{numberOf, inType, numberIn, fitting, unfit}
+use Rattle.types.specs.Tensors.{elementNamed, bytesBetween, dimensionsFrom, byteCount, allFit, typeSizePassed, typed, foreign, typeAfter, typeOf}
+use Rattle.types.specs.Numbers.{decimalNumber, inType, numberIn, fitting, unfit}
 use Rattle.grammar.specs.Symbols.{OpName, ListNumber}
 use Rattle.grammar.proofs.TableTest.{true-T, T-true}
 use Rattle.syntax.specs.Readings.{Reading}
 use Rattle.judge.specs.declared.tally.Tally.{Tally}
-use Rattle.judge.specs.Roles.{among, typeRoles, numberRoles, listedRoles, itemRoles}
+use Rattle.judge.specs.Roles.{amongRoles, typeRoles, numberRoles, listedRoles, itemRoles}
 use Rattle.judge.specs.Tally.{itemNumber, elementsAt}
 use Rattle.judge.specs.Sizes.{typePassed, manyElements, manyOps, manyItems, longList, largeNumber, longName, passes, firstPassed, sizePassed}
 use Rattle.size_laws.specs.SizeSentences.{KnownType, writtenDims, LimitedDims, elementsThrough, itemsBefore, InSigned64, PassedAt, rank, dimensions, elements, ops, items, numbers, range, characters}
@@ -117,8 +117,8 @@ module _ (text : List ℕ) where
   type-passed x =
       let at = x .token .start + 7 in
       let name = elementNamed text (shapeEnd text at) (typeClose text at) in
-      let shape = stretch at (shapeEnd text at) text in
-      go (startsWith (ascii "tensor<") (drop (x .token .start) text)) (name .known && eqb (countOf 63 shape) 0) (typed (name .element) (dimensionsFrom 0 shape)) refl refl
+      let shape = bytesBetween at (shapeEnd text at) text in
+      go (startsWith (ascii "tensor<") (drop (x .token .start) text)) (name .known && eqb (byteCount 63 shape) 0) (typed (name .element) (dimensionsFrom 0 shape)) refl refl
     where
       go : (a b : Bool) (t : TypeRead) → t .known ≡ true → t .passed ≡ typeSizePassed (writtenDims text x) →
           pick a (pick b t foreign) foreign .passed ≡ pick (pick a (pick b t foreign) foreign .known) (typeSizePassed (writtenDims text x)) 0
@@ -128,7 +128,7 @@ module _ (text : List ℕ) where
 
   module _ (earlier : List Reading) (x : Reading) where
     abbrev isType : Bool
-    isType = among typeRoles (x .role)
+    isType = amongRoles typeRoles (x .role)
 
     abbrev isKnown : Bool
     isKnown = typeOf text (x .token .start) .known
@@ -173,18 +173,18 @@ module _ (text : List ℕ) where
       elements-are : elementsTold ≡ elementsThrough text (x ∷ earlier)
       elements-are = elements-with text earlier x o (tally-elements text earlier o)
 
-      listed-number : among listedRoles (x .role) ≡ true → itemNumber (tallyOf text earlier) ≡ itemsBefore (x .role) earlier + 1
-      unfolding among
-      listed-number e = item-number text x earlier (go (eqb ListNumber (x .role)) (among listedRoles (x .role)) e) w
+      listed-number : amongRoles listedRoles (x .role) ≡ true → itemNumber (tallyOf text earlier) ≡ itemsBefore (x .role) earlier + 1
+      unfolding amongRoles
+      listed-number e = item-number text x earlier (go (eqb ListNumber (x .role)) (amongRoles listedRoles (x .role)) e) w
         where
           go : (a b : Bool) → b ≡ true → pick a true b ≡ true
           go true b e = refl
           go false b e = e
 
       list-number : x .role ≡ ListNumber → itemNumber (tallyOf text earlier) ≡ itemsBefore ListNumber earlier + 1
-      unfolding among
+      unfolding amongRoles
       list-number e =
-          subst (λ (r : ℕ). itemNumber (tallyOf text earlier) ≡ itemsBefore r earlier + 1) e (item-number text x earlier (ap (among itemRoles) e) w)
+          subst (λ (r : ℕ). itemNumber (tallyOf text earlier) ≡ itemsBefore r earlier + 1) e (item-number text x earlier (ap (amongRoles itemRoles) e) w)
 
       test-elements : manyElements text (tallyOf text earlier) (x .role) (x .token) ≡ true → PassedAt text earlier x 3
       unfolding manyElements
@@ -201,7 +201,7 @@ module _ (text : List ℕ) where
       test-items : manyItems (tallyOf text earlier) (x .role) ≡ true → PassedAt text earlier x 5
       unfolding manyItems
       test-items e =
-          let b = and-both (among listedRoles (x .role)) (ltb 8 (itemNumber (tallyOf text earlier))) e in
+          let b = and-both (amongRoles listedRoles (x .role)) (ltb 8 (itemNumber (tallyOf text earlier))) e in
           let h = ltb-true 8 (itemNumber (tallyOf text earlier)) (b .1) in
           let q = listed-number (b .0) in
           items (b .0) (omega arith)
@@ -218,8 +218,8 @@ module _ (text : List ℕ) where
       test-range : largeNumber text (x .role) (x .token) ≡ true → PassedAt text earlier x 7
       unfolding largeNumber
       test-range e =
-          let z = numberOf text (x .token .start) in
-          let b = and-both (among numberRoles (x .role)) (not (numberIn I64 z .fits)) e in
+          let z = decimalNumber text (x .token .start) in
+          let b = and-both (amongRoles numberRoles (x .role)) (not (numberIn I64 z .fits)) e in
           range (b .0) (λ r. not-both (numberIn I64 z .fits) (b .1) (number-fits z ∙ range-in z r))
 
       test-characters : longName (x .token) ≡ true → PassedAt text earlier x 8
@@ -253,12 +253,12 @@ module _ (text : List ℕ) where
           and-make (eqb (x .role) OpName) (ltb 256 (tallyOf text earlier .ops + 1)) (eq-eqb (x .role) OpName r)
           (lt-ltb 256 (tallyOf text earlier .ops + 1) (let q = tally-ops text earlier in omega arith))
       test-holds (items r h) =
-          and-make (among listedRoles (x .role)) (ltb 8 (itemNumber (tallyOf text earlier))) r (lt-ltb 8 (itemNumber (tallyOf text earlier)) (let q = listed-number r in omega arith))
+          and-make (amongRoles listedRoles (x .role)) (ltb 8 (itemNumber (tallyOf text earlier))) r (lt-ltb 8 (itemNumber (tallyOf text earlier)) (let q = listed-number r in omega arith))
       test-holds (numbers r h) =
           and-make (eqb (x .role) ListNumber) (ltb 6 (itemNumber (tallyOf text earlier))) (eq-eqb (x .role) ListNumber r)
           (lt-ltb 6 (itemNumber (tallyOf text earlier)) (let q = list-number r in omega arith))
       test-holds (range r n) =
-          let z = numberOf text (x .token .start) in
-          and-make (among numberRoles (x .role)) (not (numberIn I64 z .fits)) r (not-make (numberIn I64 z .fits) (λ e. n (in-range z (sym (number-fits z) ∙ e))))
+          let z = decimalNumber text (x .token .start) in
+          and-make (amongRoles numberRoles (x .role)) (not (numberIn I64 z .fits)) r (not-make (numberIn I64 z .fits) (λ e. n (in-range z (sym (number-fits z) ∙ e))))
       test-holds (characters r h) =
           and-make (eqb (x .token .kind) 3) (ltb 32 (x .token .end - x .token .start)) (eq-eqb (x .token .kind) 3 r) (lt-ltb 32 (x .token .end - x .token .start) h)

@@ -17,7 +17,7 @@ use Rattle.grammar.proofs.TableTest.{both, both-left, both-right, implies, true
 use Rattle.grammar.proofs.CellView.{rule-passes}
 use Rattle.grammar.proofs.Exact.{left-high}
 use Rattle.syntax.specs.Readings.{Reading, readings}
-use Rattle.judge.specs.Roles.{among, itemRoles}
+use Rattle.judge.specs.Roles.{amongRoles, itemRoles}
 use Rattle.size_laws.specs.SizeSentences.{latestFirst, listRoles}
 use Rattle.size_laws.proofs.MachineLaw.{Kept, kept}
 use Rattle.size_laws.proofs.WindowTable.{befores, afters}
@@ -28,7 +28,7 @@ itemEnd role = pick (eqb role InputName) InputType (pick (eqb role ArgumentName)
 
 -- c is an item: behind a comma that stands behind an item of the same list, or first in its list
 abbrev pub itemWindow : ℕ → ℕ → ℕ → Bool
-itemWindow a b c = implies (among itemRoles c) (pick (eqb b comma) (eqb a (itemEnd c)) (not (among (listRoles c) b)))
+itemWindow a b c = implies (amongRoles itemRoles c) (pick (eqb b comma) (eqb a (itemEnd c)) (not (amongRoles (listRoles c) b)))
 
 -- c is the type of a name
 abbrev pub typeWindow : ℕ → ℕ → ℕ → ℕ → ℕ → Bool
@@ -95,7 +95,7 @@ ruleTest : Production → Bool
 ruleTest p = allPairs (λ a b. walk (getD afters (p .left - leafCount) []) a b (p .right)) (getD befores (p .left - leafCount) [])
 
 rule-walks : {p : Production} → p ∈ grammar → T (ruleTest p)
-unfolding ruleTest grammar among samePair befores afters
+unfolding ruleTest grammar amongRoles samePair befores afters
 rule-walks m = rule-passes ruleTest m tt
 
 -- ---- from token to token

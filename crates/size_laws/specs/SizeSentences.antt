@@ -14,12 +14,12 @@ use Rattle.scan.specs.TypeText.{shapeEnd}
 use Rattle.text.specs.declared.Token.{Token}
 use Rattle.shape.specs.Index.{size, volume}
 use Rattle.shape.specs.Dims.{dimsOf}
-use Rattle.types.specs.Tensors.{stretch, dimensionsFrom, typeOf}
-use Rattle.types.specs.Numbers.{numberOf}
+use Rattle.types.specs.Tensors.{bytesBetween, dimensionsFrom, typeOf}
+use Rattle.types.specs.Numbers.{decimalNumber}
 use Rattle.grammar.specs.Symbols.{InputName, InputType, OpName, ResultType, BodyOpen, BodyClose, ArgumentName, ArgumentType, ListNumber, comma, colon}
 use Rattle.syntax.specs.Readings.{Reading, readings}
 use Rattle.syntax.specs.Roles.{rolesOf}
-use Rattle.judge.specs.Roles.{among, typeRoles, numberRoles, listedRoles}
+use Rattle.judge.specs.Roles.{amongRoles, typeRoles, numberRoles, listedRoles}
 
 -- the readings in front of those given, the latest first
 abbrev pub turnedOnto : List Reading → List Reading → List Reading
@@ -37,11 +37,11 @@ ofRole role (x ∷ earlier) = ofRole role earlier + pick (eqb (x .role) role) 1 
 
 -- 1 and 2: a tensor type of a value or of a `dense`; one that is not in 01 is refused by 3
 abbrev pub KnownType : List ℕ → Reading → Type 0
-KnownType text x = (among typeRoles (x .role) ≡ true) × (typeOf text (x .token .start) .known ≡ true)
+KnownType text x = (amongRoles typeRoles (x .role) ≡ true) × (typeOf text (x .token .start) .known ≡ true)
 
 -- the dimensions that are written after `tensor<`
 abbrev pub writtenDims : List ℕ → Reading → List ℕ
-writtenDims text x = dimensionsFrom 0 (stretch (x .token .start + 7) (shapeEnd text (x .token .start + 7)) text)
+writtenDims text x = dimensionsFrom 0 (bytesBetween (x .token .start + 7) (shapeEnd text (x .token .start + 7)) text)
 
 -- 2: "Each dimension, and the product of a shape's dimensions with every 0 counted as 1, at most 4,096."
 pub record LimitedDims (ds : List ℕ) : Type 0 where
@@ -78,7 +78,7 @@ listRoles role = comma ∷ role ∷ itemTail role
 -- the items of the role in the list that the readings end in: those since the last token that is no part of such a list
 abbrev pub itemsBefore : ℕ → List Reading → ℕ
 itemsBefore role [] = 0
-itemsBefore role (x ∷ earlier) = pick (among (listRoles role) (x .role)) (itemsBefore role earlier + pick (eqb (x .role) role) 1 0) 0
+itemsBefore role (x ∷ earlier) = pick (amongRoles (listRoles role) (x .role)) (itemsBefore role earlier + pick (eqb (x .role) role) 1 0) 0
 
 -- the roles of n items of a list, each with a comma behind it: "split by commas"
 abbrev pub itemsRun : ℕ → ℕ → List ℕ
@@ -91,7 +91,7 @@ pub record ListSoFar (role n : ℕ) (before : List Reading) : Type 0 where
   pub run : List Reading
   pub whole : before ≡ front ++ run
   pub items : rolesOf run ≡ itemsRun role n
-  pub starts : (others : List Reading) (y : Reading) → front ≡ others ++ (y ∷ []) → among (listRoles role) (y .role) ≡ false
+  pub starts : (others : List Reading) (y : Reading) → front ≡ others ++ (y ∷ []) → amongRoles (listRoles role) (y .role) ≡ false
 
 -- 7: "the signed 64-bit range"
 abbrev pub InSigned64 : ℤ → Type 0
@@ -108,11 +108,11 @@ pub data PassedAt (text : List ℕ) (earlier : List Reading) (x : Reading) : ℕ
   -- 4: "One function has at most 256 ops, its return and body ops not counted.": the 257th
   ops : x .role ≡ OpName → 256 ≤ ofRole OpName earlier → PassedAt text earlier x 4
   -- 5: "At most 8 operands of an op, inputs, or results.": the ninth of its list
-  items : among listedRoles (x .role) ≡ true → 8 ≤ itemsBefore (x .role) earlier → PassedAt text earlier x 5
+  items : amongRoles listedRoles (x .role) ≡ true → 8 ≤ itemsBefore (x .role) earlier → PassedAt text earlier x 5
   -- 6: "An attribute list has at most 6 numbers.": the seventh
   numbers : x .role ≡ ListNumber → 6 ≤ itemsBefore ListNumber earlier → PassedAt text earlier x 6
   -- 7: "An attribute number outside `dense` lies in the signed 64-bit range."
-  range : among numberRoles (x .role) ≡ true → (InSigned64 (numberOf text (x .token .start)) → ⊥) → PassedAt text earlier x 7
+  range : amongRoles numberRoles (x .role) ≡ true → (InSigned64 (decimalNumber text (x .token .start)) → ⊥) → PassedAt text earlier x 7
   -- 8: "A sigil and its name have at most 32 characters."
   characters : x .token .kind ≡ 3 → 32 < x .token .end - x .token .start → PassedAt text earlier x 8
 

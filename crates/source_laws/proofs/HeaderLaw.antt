@@ -9,7 +9,7 @@ use lib.Dec.{T, eqb, ltb}
 use borrow.Author.Tests.{ne-eqb}
 use Rattle.lists.specs.Lists.{pick, All, concat}
 use Rattle.scan.specs.Bytes.{among as isAmong}
-use Rattle.grammar.specs.Symbols.{InputName, InputType, OutputType, ResultName, OpName, FuncReturn, rbrace, End, MoreResults, Op, NamedOp, among}
+use Rattle.grammar.specs.Symbols.{InputName, InputType, OutputType, ResultName, OpName, FuncReturn, rbrace, End, MoreResults, Op, NamedOp, amongSymbols}
 use Rattle.grammar.specs.Grammar.{Production, grammar}
 use Rattle.grammar.specs.Derivation.{_∈_}
 use Rattle.grammar.specs.Leaves.{Yields}
@@ -51,14 +51,14 @@ role-append roles level d (x ∷ xs) ys = go (eqb d level && isAmong roles (x .r
 abbrev pub apartFrom : List ℕ → List ℕ → Bool
 apartFrom roles set = allPass (λ r. not (isAmong roles r)) set
 
-no-token : (roles set : List ℕ) (d r : ℕ) → T (apartFrom roles set) → T (or (ltb 0 d) (among set r)) → (eqb d 0 && isAmong roles r) ≡ false
+no-token : (roles set : List ℕ) (d r : ℕ) → T (apartFrom roles set) → T (or (ltb 0 d) (amongSymbols set r)) → (eqb d 0 && isAmong roles r) ≡ false
 no-token roles set zero r f t = rw (not-T (isAmong roles r) (member-passes (λ n. not (isAmong roles n)) set r f t))
 no-token roles set (suc d) r f t = rw (ne-eqb (suc d) 0 (λ e. omega arith))
 
 pub role-none : (roles set : List ℕ) (d : ℕ) (xs : List Reading) → T (apartFrom roles set) → T (outside set d (rolesOf xs)) → withRole roles 0 d xs ≡ []
 role-none roles set d [] f t = refl
 role-none roles set d (x ∷ xs) f t =
-    let a = or (ltb 0 d) (among set (x .role)) in
+    let a = or (ltb 0 d) (amongSymbols set (x .role)) in
     let c = outside set (depthAfter d (x .role)) (rolesOf xs) in
     ap (λ (b : Bool). pick b (x .token .start ∷ withRole roles 0 (depthAfter d (x .role)) xs) (withRole roles 0 (depthAfter d (x .role)) xs)) (no-token roles set d (x .role) f (both-left a c t)) ∙
     role-none roles set (depthAfter d (x .role)) xs f (both-right a c t)
@@ -120,14 +120,14 @@ module _ (text : List ℕ) where
   head-part : (role k : ℕ) (xs : List Reading) → T (allPass (partTest role k) headSet) → T (allIn headSet (rolesOf xs)) → OfPart (role ∷ []) k xs
   head-part role k [] f t = tt
   head-part role k (x ∷ xs) f t = (
-    same-equal (isAmong (role ∷ []) (x .role)) (eqb (partOf (x .role)) k) (member-passes (partTest role k) headSet (x .role) f (both-left (among headSet (x .role)) (allIn headSet (rolesOf xs)) t)),
-    head-part role k xs f (both-right (among headSet (x .role)) (allIn headSet (rolesOf xs)) t),
+    same-equal (isAmong (role ∷ []) (x .role)) (eqb (partOf (x .role)) k) (member-passes (partTest role k) headSet (x .role) f (both-left (amongSymbols headSet (x .role)) (allIn headSet (rolesOf xs)) t)),
+    head-part role k xs f (both-right (amongSymbols headSet (x .role)) (allIn headSet (rolesOf xs)) t),
   )
 
   pass-in : (f : ℕ → Bool) (set ls : List ℕ) → T (allPass f set) → T (allIn set ls) → T (allPass f ls)
   pass-in f set [] t u = tt
   pass-in f set (l ∷ ls) t u =
-      both-make (f l) (allPass f ls) (member-passes f set l t (both-left (among set l) (allIn set ls) u)) (pass-in f set ls t (both-right (among set l) (allIn set ls) u))
+      both-make (f l) (allPass f ls) (member-passes f set l t (both-left (amongSymbols set l) (allIn set ls) u)) (pass-in f set ls t (both-right (amongSymbols set l) (allIn set ls) u))
 
   module _ (o : Outline text) where
     header-in : T (allIn headSet (rolesOf (o .header)))

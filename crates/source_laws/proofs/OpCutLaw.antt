@@ -8,7 +8,7 @@ use native.Mathlib.Omega.{arith}
 use lib.Dec.{T, eqb, eqb→eq, ltb, leb, leb→le}
 use borrow.Author.Tests.{ne-eqb}
 use Rattle.lists.specs.Lists.{pick}
-use Rattle.grammar.specs.Symbols.{ResultName, OpName, FuncReturn, BodyOpName, BodyReturn, OperandName, OperandType, ResultType, BodyOpen, AttributeName, SingleNumber, ListNumber, ChoiceKind, Choice, ElementLiteral, DenseOpen, DenseClose, DenseType, lparen, rparen, lbrace, rbrace, langle, rangle, comma, colon, equals, arrow, dialect, array, dense, i64, MoreResults, OpRest, Operands, MoreOperands, Middle, BodiesAfter, AttributesAfter, Body, MoreBodies, OperandTypes, MoreOperandTypes, ResultTypes, ResultTypeList, MoreResultTypes, Attributes, MoreAttributes, Value, Numbers, MoreNumbers, Dense, DenseItems, MoreItems, leafCount, among}
+use Rattle.grammar.specs.Symbols.{ResultName, OpName, FuncReturn, BodyOpName, BodyReturn, OperandName, OperandType, ResultType, BodyOpen, AttributeName, SingleNumber, ListNumber, ChoiceKind, Choice, ElementLiteral, DenseOpen, DenseClose, DenseType, lparen, rparen, lbrace, rbrace, langle, rangle, comma, colon, equals, arrow, dialect, array, dense, i64, MoreResults, OpRest, Operands, MoreOperands, Middle, BodiesAfter, AttributesAfter, Body, MoreBodies, OperandTypes, MoreOperandTypes, ResultTypes, ResultTypeList, MoreResultTypes, Attributes, MoreAttributes, Value, Numbers, MoreNumbers, Dense, DenseItems, MoreItems, leafCount, amongSymbols}
 use Rattle.grammar.specs.Grammar.{Production, grammar}
 use Rattle.grammar.specs.Derivation.{_∈_}
 use Rattle.grammar.specs.Leaves.{Yields, nothing, itself, right}
@@ -29,23 +29,23 @@ use Rattle.source_laws.proofs.CutLaw.{lastRole, last-append, quiet, qui
 
 abbrev endsIn : List ℕ → List ℕ → Bool
 endsIn set [] = false
-endsIn set (x ∷ xs) = among set (lastRole x xs)
+endsIn set (x ∷ xs) = amongSymbols set (lastRole x xs)
 
 -- a symbol of the set ends in a symbol of the set
 abbrev pub closedAtEnd : List ℕ → Production → Bool
-closedAtEnd set p = implies (among set (p .left)) (endsIn set (p .right))
+closedAtEnd set p = implies (amongSymbols set (p .left)) (endsIn set (p .right))
 
-ends-any : (set l : List ℕ) (b : ℕ) → T (endsIn set l) → T (among set (lastRole b l))
+ends-any : (set l : List ℕ) (b : ℕ) → T (endsIn set l) → T (amongSymbols set (lastRole b l))
 ends-any set [] b t = absurd t
 ends-any set (x ∷ l) b t = t
 
 module _ (set : List ℕ) (f : (p : Production) → p ∈ grammar → T (closedAtEnd set p)) where
-  last-rule : (p : Production) → p ∈ grammar → (b : ℕ) (ss : List ℕ) → T (among set (lastRole (p .left) ss)) → T (among set (lastRole b (p .right ++ ss)))
+  last-rule : (p : Production) → p ∈ grammar → (b : ℕ) (ss : List ℕ) → T (amongSymbols set (lastRole (p .left) ss)) → T (amongSymbols set (lastRole b (p .right ++ ss)))
   last-rule p m b [] t =
-      subst (λ (n : ℕ). T (among set n)) (sym (last-append b (p .right) [])) (ends-any set (p .right) b (implied (among set (p .left)) (endsIn set (p .right)) (f p m) t))
-  last-rule p m b (s ∷ ss) t = subst (λ (n : ℕ). T (among set n)) (sym (last-append b (p .right) (s ∷ ss))) t
+      subst (λ (n : ℕ). T (amongSymbols set n)) (sym (last-append b (p .right) [])) (ends-any set (p .right) b (implied (amongSymbols set (p .left)) (endsIn set (p .right)) (f p m) t))
+  last-rule p m b (s ∷ ss) t = subst (λ (n : ℕ). T (amongSymbols set n)) (sym (last-append b (p .right) (s ∷ ss))) t
 
-  pub last-yields : {ss ls : List ℕ} → Yields ss ls → (b : ℕ) → T (among set (lastRole b ss)) → T (among set (lastRole b ls))
+  pub last-yields : {ss ls : List ℕ} → Yields ss ls → (b : ℕ) → T (amongSymbols set (lastRole b ss)) → T (amongSymbols set (lastRole b ls))
   last-yields nothing b t = t
   last-yields (itself {leaf} h y) b t = last-yields y leaf t
   last-yields (right {p} {ss} m y) b t = last-yields y b (last-rule p m b ss t)
@@ -66,7 +66,7 @@ keeps-rest p m = rule-passes (keeps restSet) m tt
 
 -- a role at which no op begins, whatever stands before it
 abbrev pub within : ℕ → Bool
-within r = not (among (ResultName ∷ OpName ∷ FuncReturn ∷ BodyOpName ∷ BodyReturn ∷ []) r)
+within r = not (amongSymbols (ResultName ∷ OpName ∷ FuncReturn ∷ BodyOpName ∷ BodyReturn ∷ []) r)
 
 not-begun : (b r : ℕ) → T (within r) → begins b r ≡ false
 unfolding begins
@@ -82,27 +82,27 @@ not-begun b r t =
     go false false false false true t = absurd t
     go false false false false false t = refl
 
-rest-within : (r : ℕ) → T (among restSet r) → T (within r)
+rest-within : (r : ℕ) → T (amongSymbols restSet r) → T (within r)
 rest-within r t = member-passes within restSet r tt t
 
 none-begun : (b d r : ℕ) → T (or (ltb 0 d) (within r)) → T (not (eqb d 0 && begins b r))
 none-begun b zero r t = rw (not-begun b r t) tt
 none-begun b (suc d) r t = rw (ne-eqb (suc d) 0 (λ e. omega arith)) tt
 
-pub outside-quiet : (set : List ℕ) → ((r : ℕ) → T (among set r) → T (within r)) → (b d : ℕ) (ls : List ℕ) → T (outside set d ls) → T (quiet begins 0 b d ls)
+pub outside-quiet : (set : List ℕ) → ((r : ℕ) → T (amongSymbols set r) → T (within r)) → (b d : ℕ) (ls : List ℕ) → T (outside set d ls) → T (quiet begins 0 b d ls)
 outside-quiet set f b d [] t = tt
 outside-quiet set f b d (r ∷ rs) t =
-    let a = or (ltb 0 d) (among set r) in
+    let a = or (ltb 0 d) (amongSymbols set r) in
     let c = outside set (depthAfter d r) rs in
     both-make (not (eqb d 0 && begins b r)) (quiet begins 0 r (depthAfter d r) rs) (none-begun b d r (weaker (ltb 0 d) (both-left a c t))) (outside-quiet set f r (depthAfter d r) rs (both-right a c t))
   where
-    weaker : (e : Bool) → T (or e (among set r)) → T (or e (within r))
+    weaker : (e : Bool) → T (or e (amongSymbols set r)) → T (or e (within r))
     weaker true u = tt
     weaker false u = f r u
 
 pub outside-closed : (set : List ℕ) (d : ℕ) (ls : List ℕ) → T (outside set d ls) → depthThrough d ls ≡ 0
 outside-closed set d [] t = eqb→eq d 0 t
-outside-closed set d (r ∷ rs) t = outside-closed set (depthAfter d r) rs (both-right (or (ltb 0 d) (among set r)) (outside set (depthAfter d r) rs) t)
+outside-closed set d (r ∷ rs) t = outside-closed set (depthAfter d r) rs (both-right (or (ltb 0 d) (amongSymbols set r)) (outside set (depthAfter d r) rs) t)
 
 -- ---- result names
 
@@ -115,7 +115,7 @@ spaced b [] = true
 spaced b (r ∷ rs) = both (implies (eqb r ResultName) (eqb b comma)) (spaced r rs)
 
 abbrev nameRule : Production → Bool
-nameRule p = both (leb leafCount (p .left)) (implies (among nameSet (p .left)) (both (allIn nameSet (p .right)) (spaced 0 (p .right))))
+nameRule p = both (leb leafCount (p .left)) (implies (amongSymbols nameSet (p .left)) (both (allIn nameSet (p .right)) (spaced 0 (p .right))))
 
 name-rule : {p : Production} → p ∈ grammar → T (nameRule p)
 unfolding grammar
@@ -141,23 +141,23 @@ spaced-append b (x ∷ xs) ys t u =
 in-append : (set xs ys : List ℕ) → T (allIn set xs) → T (allIn set ys) → T (allIn set (xs ++ ys))
 in-append set [] ys t u = u
 in-append set (x ∷ xs) ys t u =
-    both-make (among set x) (allIn set (xs ++ ys)) (both-left (among set x) (allIn set xs) t) (in-append set xs ys (both-right (among set x) (allIn set xs) t) u)
+    both-make (amongSymbols set x) (allIn set (xs ++ ys)) (both-left (amongSymbols set x) (allIn set xs) t) (in-append set xs ys (both-right (amongSymbols set x) (allIn set xs) t) u)
 
 spaced-yields : {ss ls : List ℕ} → Yields ss ls → (b : ℕ) → T (allIn nameSet ss) → T (spaced b ss) → T (allIn nameSet ls) × T (spaced b ls)
 spaced-yields nothing b t u = (tt, tt)
 spaced-yields (itself {leaf} {ss} {ls} h y) b t u =
     let a = implies (eqb leaf ResultName) (eqb b comma) in
-    let i = spaced-yields y leaf (both-right (among nameSet leaf) (allIn nameSet ss) t) (both-right a (spaced leaf ss) u) in
-    (both-make (among nameSet leaf) (allIn nameSet ls) (both-left (among nameSet leaf) (allIn nameSet ss) t) (i .0), both-make a (spaced leaf ls) (both-left a (spaced leaf ss) u) (i .1))
+    let i = spaced-yields y leaf (both-right (amongSymbols nameSet leaf) (allIn nameSet ss) t) (both-right a (spaced leaf ss) u) in
+    (both-make (amongSymbols nameSet leaf) (allIn nameSet ls) (both-left (amongSymbols nameSet leaf) (allIn nameSet ss) t) (i .0), both-make a (spaced leaf ls) (both-left a (spaced leaf ss) u) (i .1))
 spaced-yields (right {p} {ss} m y) b t u =
     let l = leb leafCount (p .left) in
     let g = both (allIn nameSet (p .right)) (spaced 0 (p .right)) in
-    let k = implies (among nameSet (p .left)) g in
+    let k = implies (amongSymbols nameSet (p .left)) g in
     let high = leb→le leafCount (p .left) (both-left l k (name-rule m)) in
-    let z = implied (among nameSet (p .left)) g (both-right l k (name-rule m)) (both-left (among nameSet (p .left)) (allIn nameSet ss) t) in
+    let z = implied (amongSymbols nameSet (p .left)) g (both-right l k (name-rule m)) (both-left (amongSymbols nameSet (p .left)) (allIn nameSet ss) t) in
     let v = both-right (implies (eqb (p .left) ResultName) (eqb b comma)) (spaced (p .left) ss) u in
     spaced-yields y b
-    (in-append nameSet (p .right) ss (both-left (allIn nameSet (p .right)) (spaced 0 (p .right)) z) (both-right (among nameSet (p .left)) (allIn nameSet ss) t))
+    (in-append nameSet (p .right) ss (both-left (allIn nameSet (p .right)) (spaced 0 (p .right)) z) (both-right (amongSymbols nameSet (p .left)) (allIn nameSet ss) t))
     (spaced-append b (p .right) ss (spaced-weaker 0 b (p .right) (λ e. omega arith) (both-right (allIn nameSet (p .right)) (spaced 0 (p .right)) z))
     (spaced-weaker (p .left) 0 ss (λ e. omega arith) v))
 
@@ -165,7 +165,7 @@ spaced-yields (right {p} {ss} m y) b t u =
 abbrev nameTest : ℕ → Bool
 nameTest r = both (eqb (depthAfter 0 r) 0) (or (eqb r ResultName) (within r))
 
-name-test : (r : ℕ) → T (among nameSet r) → T (nameTest r)
+name-test : (r : ℕ) → T (amongSymbols nameSet r) → T (nameTest r)
 unfolding depthAfter
 name-test r t = member-passes nameTest nameSet r tt t
 
@@ -184,10 +184,10 @@ name-begins b r t u = go (eqb r ResultName) refl t u
 names-quiet : (b : ℕ) (ls : List ℕ) → T (allIn nameSet ls) → T (spaced b ls) → T (quiet begins 0 b 0 ls) × (depthThrough 0 ls ≡ 0)
 names-quiet b [] t u = (tt, refl)
 names-quiet b (r ∷ rs) t u =
-    let n = name-test r (both-left (among nameSet r) (allIn nameSet rs) t) in
+    let n = name-test r (both-left (amongSymbols nameSet r) (allIn nameSet rs) t) in
     let z : depthAfter 0 r ≡ 0 = eqb→eq (depthAfter 0 r) 0 (both-left (eqb (depthAfter 0 r) 0) (or (eqb r ResultName) (within r)) n) in
     let a = implies (eqb r ResultName) (eqb b comma) in
-    let i = names-quiet r rs (both-right (among nameSet r) (allIn nameSet rs) t) (both-right a (spaced r rs) u) in
+    let i = names-quiet r rs (both-right (amongSymbols nameSet r) (allIn nameSet rs) t) (both-right a (spaced r rs) u) in
     let k = name-begins b r (both-right (eqb (depthAfter 0 r) 0) (or (eqb r ResultName) (within r)) n) (both-left a (spaced r rs) u) in (
       both-make (not (eqb 0 0 && begins b r)) (quiet begins 0 r (depthAfter 0 r) rs) k (subst (λ (d : ℕ). T (quiet begins 0 r d rs)) (sym z) (i .0)),
       ap (λ (d : ℕ). depthThrough d rs) z ∙ i .1,

@@ -10,7 +10,7 @@ use lib.Dec.{T}
 use lib.ListN.{length, getD, length-append, List·getD-append}
 use lib.Seq.{getD-append-seam}
 use Rattle.lists.specs.Lists.{All, concat}
-use Rattle.grammar.specs.Symbols.{OpName, FuncReturn, rbrace, lbrace, End, Op, among}
+use Rattle.grammar.specs.Symbols.{OpName, FuncReturn, rbrace, lbrace, End, Op, amongSymbols}
 use Rattle.grammar.specs.Grammar.{Production, grammar}
 use Rattle.grammar.specs.Derivation.{_∈_}
 use Rattle.grammar.proofs.CellView.{rule-passes}
@@ -60,7 +60,7 @@ lbrace-closed : (p : Production) → p ∈ grammar → T (closedAtEnd (lbrace �
 unfolding grammar
 lbrace-closed p m = rule-passes (closedAtEnd (lbrace ∷ [])) m tt
 
-head-within : (r : ℕ) → T (among headSet r) → T (within r)
+head-within : (r : ℕ) → T (amongSymbols headSet r) → T (within r)
 head-within r t = member-passes within headSet r tt t
 
 keeps-head : (p : Production) → p ∈ grammar → T (keeps headSet p)

@@ -11,7 +11,7 @@ use lib.ListN.{getD, getElem?}
 use borrow.Author.Tests.{eqb-true, leb-true, eq-eqb, le-leb}
 use Rattle.lists.specs.Lists.{pick}
 use Rattle.lists.proofs.TestLaw.{both-true}
-use Rattle.run.specs.Run.{Program, onOption}
+use Rattle.run.specs.Run.{RunProgram, onOption}
 use Rattle.scalar.specs.Body.{identityOf}
 use Rattle.scalar.specs.declared.Body.{Body}
 use Rattle.ops.specs.declared.Kind.{Kind}
@@ -73,13 +73,13 @@ constantIs z c (reduction body) = false
 constantIs z c other = false
 
 -- the op that defines value i
-abbrev pub definedBy : Program Node → ℕ → Option Node
+abbrev pub definedBy : RunProgram Node → ℕ → Option Node
 definedBy p i = pick (leb (p .inputs) i) (getElem? (p .ops) (i - p .inputs)) none
 
 abbrev pub startIs : ℕ → Option Node → Bool
 startIs z o = onOption o false (λ c. constantIs z c (roleOf (c .kind)))
 
-abbrev pub startsRight : Program Node → Node → Role → Bool
+abbrev pub startsRight : RunProgram Node → Node → Role → Bool
 startsRight p o (reduction body) = startIs (identityOf body (elementOf o)) (definedBy p (getD (o .operands) 1 0))
 startsRight p o constant = true
 startsRight p o other = true
@@ -88,7 +88,7 @@ abbrev pub each : (Node → Bool) → List Node → Bool
 each t [] = true
 each t (o ∷ os) = t o && each t os
 
-abbrev pub startsAtIdentity : Program Node → Bool
+abbrev pub startsAtIdentity : RunProgram Node → Bool
 startsAtIdentity p = each (λ o. startsRight p o (roleOf (o .kind))) (p .ops)
 
 -- ---- it decides
@@ -102,7 +102,7 @@ each-all : (t : Node → Bool) (os : List Node) → ((k : ℕ) (o : Node) → ge
 each-all t [] h = refl
 each-all t (x ∷ os) h = rw (h zero x refl) (each-all t os (λ k o e. h (suc k) o e))
 
-module _ (p : Program Node) where
+module _ (p : RunProgram Node) where
   -- a constant with the element z defines value i
   abbrev StartsAt : ℕ → ℕ → Type 0
   StartsAt i z = (j : ℕ) × (c : Node) × (getElem? (p .ops) j ≡ some c) × (c .kind ≡ Constant) × (i ≡ p .inputs + j) × (getD (c .values) 0 0 ≡ z)

@@ -6,7 +6,7 @@ use mathlib.Core.List.{[], _∷_}
 use Rattle.element.specs.declared.ElementType.the-variants.{I8}
 use Rattle.scalar.specs.declared.Body.the-variants.{Add}
 use Rattle.ops.specs.declared.Kind.the-variants.{Constant, Reduce}
-use Rattle.start_examples.specs.Starts.{fromInput, filled, reducing, identities, signed, Witnessed, Refuted}
+use Rattle.start_examples.specs.Starts.{fromInput, filledText, reducing, identities, signed, Witnessed, Refuted}
 use Rattle.start_examples.proofs.Computing.{reading, tableRow, Gave, Held, witnessed, counterexample}
 
 -- a declaration for each row: what computing one text held is given back before the next
@@ -42,7 +42,7 @@ pub signed-starts : Witnessed signed
 unfolding identities
 signed-starts = witnessed signed (row-0, (row-1, (row-2, (row-3, (row-4, (row-5, (row-6, tt)))))))
 
-from-input : Gave (filled "add" "i8" "" fromInput) (Reduce Add ∷ []) (I8 ∷ []) false
+from-input : Gave (filledText "add" "i8" "" fromInput) (Reduce Add ∷ []) (I8 ∷ []) false
 unfolding reading
 from-input = refl
 
@@ -52,6 +52,6 @@ from-one = refl
 
 pub refuted : Refuted
 refuted = (
-  counterexample (filled "add" "i8" "" fromInput) (Reduce Add ∷ []) (I8 ∷ []) from-input,
+  counterexample (filledText "add" "i8" "" fromInput) (Reduce Add ∷ []) (I8 ∷ []) from-input,
   counterexample (reducing "add" "i8" "1") (Constant ∷ Reduce Add ∷ []) (I8 ∷ I8 ∷ []) from-one,
 )

@@ -44,47 +44,47 @@ unfoldable pub fromInput : List String
 fromInput = "func.func @m(%x: tensor<2xT>, %s: tensor<T>) -> tensor<T> {" ∷ reduction
 
 -- the bytes of these lines, with what stands for O (byte 79), T (84) and S (83)
-unfoldable pub filled : String → String → String → List String → List ℕ
-filled op type start lines = concat (map (λ line. concat (map byte (ascii line)) ++ ascii "\n") lines)
+unfoldable pub filledText : String → String → String → List String → List ℕ
+filledText op type start lines = concat (map (λ line. concat (map byte (ascii line)) ++ ascii "\n") lines)
   where
     byte : ℕ → List ℕ
     byte b = pick (eqb b 79) (ascii op) (pick (eqb b 84) (ascii type) (pick (eqb b 83) (ascii start) (b ∷ [])))
 
 -- reduces two elements of the type by the op, from a constant
 unfoldable pub reducing : String → String → String → List ℕ
-reducing op type start = filled op type start fromConstant
+reducing op type start = filledText op type start fromConstant
 
 -- ---- the seven bodies on a signed type, an unsigned one and i1
 
 -- a body, its op's name, and its identity as a literal of i8, of ui16 and of i1
-pub record Row : Type 0 where
+pub record StartRow : Type 0 where
   pub body : Body
   pub op : String
   pub signed : String
   pub unsigned : String
   pub boolean : String
 
-abbrev row : Body → String → String → String → String → Row
-row body op signed unsigned boolean = record { body = body; op = op; signed = signed; unsigned = unsigned; boolean = boolean }
+abbrev startRow : Body → String → String → String → String → StartRow
+startRow body op signed unsigned boolean = record { body = body; op = op; signed = signed; unsigned = unsigned; boolean = boolean }
 
 -- "Identities: 0 for add, or, xor; 1 for multiply; lowest for maximum; highest for minimum; all bits set for and; on `i1` by the logical
 -- meaning"
-unfoldable pub identities : List Row
+unfoldable pub identities : List StartRow
 identities =
-    row Add "add" "0" "0" "false"
-    ∷ row Multiply "multiply" "1" "1" "true"
-    ∷ row Maximum "maximum" "-128" "0" "false"
-    ∷ row Minimum "minimum" "127" "65535" "true"
-    ∷ row And "and" "-1" "65535" "true"
-    ∷ row Or "or" "0" "0" "false"
-    ∷ row Xor "xor" "0" "0" "false"
+    startRow Add "add" "0" "0" "false"
+    ∷ startRow Multiply "multiply" "1" "1" "true"
+    ∷ startRow Maximum "maximum" "-128" "0" "false"
+    ∷ startRow Minimum "minimum" "127" "65535" "true"
+    ∷ startRow And "and" "-1" "65535" "true"
+    ∷ startRow Or "or" "0" "0" "false"
+    ∷ startRow Xor "xor" "0" "0" "false"
     ∷ []
 
 -- an element type, its name, and its literals in a row
 pub record Column : Type 0 where
   pub type : ElementType
   pub name : String
-  pub start : Row → String
+  pub start : StartRow → String
 
 abbrev pub signed : Column
 signed = record { type = I8; name = "i8"; start = λ r. r .signed }
@@ -95,12 +95,12 @@ unsigned = record { type = U16; name = "ui16"; start = λ r. r .unsigned }
 abbrev pub boolean : Column
 boolean = record { type = I1; name = "i1"; start = λ r. r .boolean }
 
-abbrev pub textOf : Column → Row → List ℕ
+abbrev pub textOf : Column → StartRow → List ℕ
 textOf c r = reducing (r .op) (c .name) (c .start r)
 
 -- the text is accepted; its ops are a constant and a reduction by the row's body, on elements of the column's type; the reduction starts at the
 -- identity
-pub record Witness (c : Column) (r : Row) : Type 0 where
+pub record Witness (c : Column) (r : StartRow) : Type 0 where
   pub accepted : verdict (textOf c r) .number ≡ 0
   pub reduces : map (λ (o : Node). o .kind) (nodesOf (textOf c r) .ops) ≡ Constant ∷ Reduce (r .body) ∷ []
   pub typed : map elementOf (nodesOf (textOf c r) .ops) ≡ c .type ∷ c .type ∷ []
@@ -119,4 +119,4 @@ pub record Counterexample (text : List ℕ) : Type 0 where
 
 -- add on i8 from an input, and from 1
 abbrev pub Refuted : Type 0
-Refuted = Counterexample (filled "add" "i8" "" fromInput) × Counterexample (reducing "add" "i8" "1")
+Refuted = Counterexample (filledText "add" "i8" "" fromInput) × Counterexample (reducing "add" "i8" "1")

@@ -22,7 +22,7 @@ use Rattle.ops.specs.Ops.{TensorType as NodeType, hlo, wayOf}
 use Rattle.ops.specs.Typed.{HoldAll}
 use Rattle.ops.proofs.OpLaw.{result-holds}
 use Rattle.optable.specs.Table.{value}
-use Rattle.attribute.specs.Attribute.{denseAt}
+use Rattle.attribute.specs.Attribute.{denseTokens}
 use Rattle.dense.specs.Dense.{denseValue}
 use Rattle.dimrules.specs.Types.{typeAt}
 use Rattle.opcheck.specs.declared.Operation.{Operation}
@@ -39,16 +39,16 @@ use Rattle.offsets.proofs.OffsetsLaw.{values-read, offset-next, offset-le}
 use Rattle.attributes.specs.Attributes.{nameOf, denseType, denseFits}
 use Rattle.operands.specs.Operands.{valueNamed, arityOf}
 use Rattle.operands.proofs.OperandsLaw.{arity-few}
-use Rattle.typing.specs.Typing.{rowOf, operationOf}
+use Rattle.typing.specs.Typing.{rowNamedIn, operationOf}
 use Rattle.verify.specs.Verify.{verdict}
 use Rattle.facts.specs.Facts.{AcceptedAs, nodeType, nodeFor}
 use Rattle.facts.proofs.NodeLaw.{hold-as}
-use Rattle.nodes.specs.Nodes.{kindOf, elementsOf, operandsOf, nodeAt}
+use Rattle.nodes.specs.Nodes.{opKind, denseElements, operandsOf, nodeAt}
 use Rattle.nodes.proofs.AcceptedLaw.{op-accepted, operands-defined, node-result, node-accepted, constant-accepted}
 use Rattle.layout.specs.Layout.{valueIn, tensorsIn}
 use Rattle.spans.specs.Spans.{placesOf, placeAt}
-use Rattle.doing.specs.Doing.{sizeOf, argIn, argsIn, valuesAt as densesAt, opGives, Placed, Readable}
-use Rattle.steps.specs.Steps.{opMeaning, Held, Accepts}
+use Rattle.doing.specs.Doing.{sizeOf, argIn, argsIn, argumentsAt as densesAt, opGives, OperandsPlaced, Readable}
+use Rattle.steps.specs.Steps.{opMeaning, ValuesHeld, Accepts}
 
 -- the numbers of the operands play no part in what an op gives, and a constant's elements none in another op
 gives-same : (kind : Kind) (o : Operation) (xs ys : Tensor) (operands : List ℕ) (args : List Tensor) → (kind ≡ Constant → xs ≡ ys)
@@ -87,10 +87,10 @@ module _ (text : List ℕ) (e : verdict text .number ≡ 0) (k : ℕ) (l : k < o
   op = opAt text (getD (p .ops) k 0)
 
   abbrev o : Operation
-  o = operationOf text op (rowOf text op)
+  o = operationOf text op (rowNamedIn text op)
 
   abbrev literal : ℕ
-  literal = denseAt text (nameOf text op value) .literal
+  literal = denseTokens text (nameOf text op value) .literal
 
   abbrev named : ℕ → ℕ
   named j = valueNamed text (vs .list) n (placeOf op operandName j)
@@ -117,17 +117,17 @@ module _ (text : List ℕ) (e : verdict text .number ≡ 0) (k : ℕ) (l : k < o
   arg-is slots j m = ap (λ (i : ℕ). take (sizeOf o j) (drop i slots)) (placed-at j m) ∙ ap (λ (i : ℕ). take i (drop (offsetAt vs (named j)) slots)) (same-size j m)
 
   -- a constant is readable
-  pub op-readable : Readable (kindOf text op) o text literal
+  pub op-readable : Readable (opKind text op) o text literal
   unfolding operationOf denseType denseFits
   op-readable q = let c = constant-accepted text e k l q in rw (c .0) (c .1)
 
-  elements-are : kindOf text op ≡ Constant → elementsOf text op ≡ densesAt o text literal
-  unfolding operationOf denseType elementsOf
+  elements-are : opKind text op ≡ Constant → denseElements text op ≡ densesAt o text literal
+  unfolding operationOf denseType denseElements
   elements-are q = let c = constant-accepted text e k l q in rw (c .0)
 
-  module _ (slots : List ℕ) (h : Held vs n slots) where
+  module _ (slots : List ℕ) (h : ValuesHeld vs n slots) where
     -- the operands stand in the slots
-    pub op-placed : Placed o (placesOf text op vs n) slots
+    pub op-placed : OperandsPlaced o (placesOf text op vs n) slots
     op-placed =
         record {
           inside = λ j m.
@@ -149,11 +149,11 @@ module _ (text : List ℕ) (e : verdict text .number ≡ 0) (k : ℕ) (l : k < o
         ∙ ap (λ (a : ℕ). tab a (argIn o (placesOf text op vs n) slots)) (sym arity-is)
 
     -- what it gives is what its class gives on them
-    pub op-means : opMeaning text k slots ≡ opGives (kindOf text op) o (densesAt o text literal) (argsIn o (placesOf text op vs n) slots)
+    pub op-means : opMeaning text k slots ≡ opGives (opKind text op) o (densesAt o text literal) (argsIn o (placesOf text op vs n) slots)
     unfolding opMeaning valuesOf nodeAt opGives
     op-means =
-        ap (λ (args : List Tensor). byFold hlo (wayOf (nodeAt text p vs k) (kindOf text op) args)) args-are
-        ∙ gives-same (kindOf text op) o (elementsOf text op) (densesAt o text literal) (operandsOf text op (vs .list) n) (argsIn o (placesOf text op vs n) slots) elements-are
+        ap (λ (args : List Tensor). byFold hlo (wayOf (nodeAt text p vs k) (opKind text op) args)) args-are
+        ∙ gives-same (opKind text op) o (denseElements text op) (densesAt o text literal) (operandsOf text op (vs .list) n) (argsIn o (placesOf text op vs n) slots) elements-are
 
     -- its stretch is as long as its result
     pub op-fills : (out : List ℕ) → length out ≡ sizeAt vs n → Fills out (o .result .shape)
@@ -167,8 +167,8 @@ module _ (text : List ℕ) (e : verdict text .number ≡ 0) (k : ℕ) (l : k < o
         let node = nodeAt text p vs k in
         subst (λ (t : NodeType). Holds (t .element) (size (t .dims)) v) (node-result text e k l)
         (result-holds node (argsIn o (placesOf text op vs n) slots) (hold-tab (o .arity) (λ j. nodeType (typeAt (o .types) j)) (argIn o (placesOf text op vs n) slots) (op-placed .holds))
-        (kindOf text op) (node-accepted text e k l) v
-        (ap (λ (args : List Tensor). byFold hlo (wayOf node (kindOf text op) args)) (sym args-are) ∙ r))
+        (opKind text op) (node-accepted text e k l) v
+        (ap (λ (args : List Tensor). byFold hlo (wayOf node (opKind text op) args)) (sym args-are) ∙ r))
 
 -- ---- op k as the code has it
 
@@ -180,16 +180,16 @@ counted text k l = omega arith
 abbrev Asks : List ℕ → Places → Values → ℕ → List ℕ → List ℕ → Type 0
 Asks text p vs k slots out =
     let part = opAt text (getD (p .ops) k 0) in
-    let o = operationOf text part (rowOf text part) in
-    AcceptedAs (kindOf text part) o × Placed o (placesOf text part vs (vs .inputs + k)) slots
-    × Readable (kindOf text part) o text (denseAt text (nameOf text part value) .literal) × Fills out (o .result .shape)
+    let o = operationOf text part (rowNamedIn text part) in
+    AcceptedAs (opKind text part) o × OperandsPlaced o (placesOf text part vs (vs .inputs + k)) slots
+    × Readable (opKind text part) o text (denseTokens text (nameOf text part value) .literal) × Fills out (o .result .shape)
 
 -- what it gives
 abbrev Gives : List ℕ → Places → Values → ℕ → List ℕ → Out Tensor ℕ
 Gives text p vs k slots =
     let part = opAt text (getD (p .ops) k 0) in
-    let o = operationOf text part (rowOf text part) in
-    opGives (kindOf text part) o (densesAt o text (denseAt text (nameOf text part value) .literal)) (argsIn o (placesOf text part vs (vs .inputs + k)) slots)
+    let o = operationOf text part (rowNamedIn text part) in
+    opGives (opKind text part) o (densesAt o text (denseTokens text (nameOf text part value) .literal)) (argsIn o (placesOf text part vs (vs .inputs + k)) slots)
 
 module _ (text : List ℕ) (p : Places) (vs : Values) (starts : List ℕ) (a : Accepts text p vs starts) (k : ℕ) (slots : List ℕ) where
   -- a fact of the text's places and values is one of these
@@ -197,18 +197,18 @@ module _ (text : List ℕ) (p : Places) (vs : Values) (starts : List ℕ) (a : A
   unfolding valuesOf
   as-read P x = subst (λ (q : Places). P q vs) (sym (a .program)) (subst (P (programOf text)) (sym (a .values)) x)
 
-  pub step-asks : k < opsOf p → Held vs (vs .inputs + k) slots → (out : List ℕ) → length out ≡ sizeAt vs (vs .inputs + k) → Asks text p vs k slots out
+  pub step-asks : k < opsOf p → ValuesHeld vs (vs .inputs + k) slots → (out : List ℕ) → length out ≡ sizeAt vs (vs .inputs + k) → Asks text p vs k slots out
   step-asks =
-      as-read (λ q ws. k < opsOf q → Held ws (ws .inputs + k) slots → (out : List ℕ) → length out ≡ sizeAt ws (ws .inputs + k) → Asks text q ws k slots out)
+      as-read (λ q ws. k < opsOf q → ValuesHeld ws (ws .inputs + k) slots → (out : List ℕ) → length out ≡ sizeAt ws (ws .inputs + k) → Asks text q ws k slots out)
       (λ l h out f. (op-accepted text (a .verdict) k l, op-placed text (a .verdict) k l slots h, op-readable text (a .verdict) k l, op-fills text (a .verdict) k l slots h out f))
 
-  pub step-means : k < opsOf p → Held vs (vs .inputs + k) slots → opMeaning text k slots ≡ Gives text p vs k slots
-  step-means = as-read (λ q ws. k < opsOf q → Held ws (ws .inputs + k) slots → opMeaning text k slots ≡ Gives text q ws k slots) (λ l h. op-means text (a .verdict) k l slots h)
+  pub step-means : k < opsOf p → ValuesHeld vs (vs .inputs + k) slots → opMeaning text k slots ≡ Gives text p vs k slots
+  step-means = as-read (λ q ws. k < opsOf q → ValuesHeld ws (ws .inputs + k) slots → opMeaning text k slots ≡ Gives text q ws k slots) (λ l h. op-means text (a .verdict) k l slots h)
 
-  pub step-holds : k < opsOf p → Held vs (vs .inputs + k) slots → (v : Tensor) → opMeaning text k slots ≡ gives v
+  pub step-holds : k < opsOf p → ValuesHeld vs (vs .inputs + k) slots → (v : Tensor) → opMeaning text k slots ≡ gives v
       → Holds (getD (vs .list) (vs .inputs + k) noValue .ty .element) (sizeAt vs (vs .inputs + k)) v
   step-holds =
-      as-read (λ q ws. k < opsOf q → Held ws (ws .inputs + k) slots → (v : Tensor) → opMeaning text k slots ≡ gives v
+      as-read (λ q ws. k < opsOf q → ValuesHeld ws (ws .inputs + k) slots → (v : Tensor) → opMeaning text k slots ≡ gives v
       → Holds (getD (ws .list) (ws .inputs + k) noValue .ty .element) (sizeAt ws (ws .inputs + k)) v) (λ l h. op-holds text (a .verdict) k l slots h)
 
   pub step-read : ValuesRead vs

@@ -25,7 +25,7 @@ opMeaning text k slots =
     languageOf hlo .meaning o (valuesAt (languageOf hlo) (tensorsIn vs slots (vs .inputs + k)) (o .operands)) 0
 
 -- the first n values stand in the slots, each with values of its type
-pub record Held (vs : Values) (n : ℕ) (slots : List ℕ) : Type 0 where
+pub record ValuesHeld (vs : Values) (n : ℕ) (slots : List ℕ) : Type 0 where
   pub room : offsetAt vs n ≤ length slots
   pub holds : (i : ℕ) → i < n → Holds (getD (vs .list) i noValue .ty .element) (sizeAt vs i) (valueIn vs slots i)
 

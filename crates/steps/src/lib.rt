@@ -5,7 +5,7 @@ ghost use lib.ListN.{length};
 ghost use Rattle.values.specs.Values.{opsOf};
 ghost use Rattle.offsets.specs.Offsets.{sizeAt};
 ghost use Rattle.doing.specs.Doing.{Done};
-ghost use Rattle.steps.specs.Steps.{opMeaning, Held, Accepts};
+ghost use Rattle.steps.specs.Steps.{opMeaning, ValuesHeld, Accepts};
 use doing::do_op;
 use elementwise::Step;
 use kinds::kind_of;
@@ -29,7 +29,7 @@ pub fn op_step(
     out: &mut [u64],
 ) -> Step
     requires { ⌜ Accepts (now text) p vs starts × (k < opsOf p) ⌝ }
-    requires { ⌜ Held vs (vs .inputs + k) (now slots) × (length (now out) ≡ sizeAt vs (vs .inputs + k)) ⌝ }
+    requires { ⌜ ValuesHeld vs (vs .inputs + k) (now slots) × (length (now out) ≡ sizeAt vs (vs .inputs + k)) ⌝ }
     ensures { λ r. ⌜ Done k (opMeaning (now (text .entry)) k (now (slots .entry))) r (now (out .entry)) (now (out .exit)) ⌝ }
 {
     let ops = p.ops;

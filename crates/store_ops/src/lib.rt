@@ -5,9 +5,9 @@ ghost use lib.ListN.{length, take};
 ghost use Rattle.values.specs.Values.{opsOf};
 ghost use Rattle.offsets.specs.Offsets.{offsetAt, neededOf};
 ghost use Rattle.inputs.specs.Inputs.{inputSlots};
-ghost use Rattle.steps.specs.Steps.{opMeaning, Held, Accepts};
+ghost use Rattle.steps.specs.Steps.{opMeaning, ValuesHeld, Accepts};
 ghost use Rattle.evaluation.specs.Evaluated.{ran, answer};
-ghost use Rattle.evaluation.specs.State.{Stretch, Written, Started, zeroed};
+ghost use Rattle.evaluation.specs.State.{Stretch, Written, InputsStarted, zeroed};
 use constants::constant_into;
 use doing::zero_into;
 use elementwise::Step;
@@ -31,7 +31,7 @@ fn fill_at(
     done: &mut [u64],
     store: &mut [u64],
 ) -> Step
-    requires { ⌜ Accepts (now text) p vs starts × (k < opsOf p) × Held vs (vs .inputs + k) (now done) ⌝ }
+    requires { ⌜ Accepts (now text) p vs starts × (k < opsOf p) × ValuesHeld vs (vs .inputs + k) (now done) ⌝ }
     requires { ⌜ Stretch vs (vs .inputs + k) at end (length (now done)) (length (now store)) ⌝ }
     ensures { λ r. ⌜ Written k (opMeaning (now (text .entry)) k (now (done .entry))) at end r (now (done .entry)) (now (done .exit)) (now (store .entry)) (now (store .exit)) ⌝ }
 {
@@ -55,7 +55,7 @@ fn fill(
     done: &mut [u64],
     store: &mut [u64],
 ) -> Step
-    requires { ⌜ Accepts (now text) p vs starts × (k < opsOf p) × Held vs (vs .inputs + k) (now done) ⌝ }
+    requires { ⌜ Accepts (now text) p vs starts × (k < opsOf p) × ValuesHeld vs (vs .inputs + k) (now done) ⌝ }
     requires { ⌜ (neededOf vs ≤ length (now done)) × (neededOf vs ≤ length (now store)) × (neededOf vs ≤ 8192) ⌝ }
     ensures { λ r. ⌜ Written k (opMeaning (now (text .entry)) k (now (done .entry))) (offsetAt vs (vs .inputs + k)) (offsetAt vs (vs .inputs + k + 1)) r (now (done .entry)) (now (done .exit)) (now (store .entry)) (now (store .exit)) ⌝ }
 {
@@ -83,7 +83,7 @@ pub fn run_ops(
     done: &mut [u64],
     store: &mut [u64],
 ) -> Refusal
-    requires { ⌜ Accepts (now text) p vs starts × (needed ≡ neededOf vs) × Started vs (now done) (now store) ⌝ }
+    requires { ⌜ Accepts (now text) p vs starts × (needed ≡ neededOf vs) × InputsStarted vs (now done) (now store) ⌝ }
     ensures { λ r. ⌜ answer r (now (store .exit)) ≡ ran (now (text .entry)) (take (inputSlots vs) (now (store .entry))) (now (store .entry)) ⌝ }
 {
     let n = ops_of(p);

@@ -5,12 +5,12 @@ use mathlib.Core.List.{List}
 use Prim.Native.Nat.{ℕ, _≤_}
 use lib.ListN.{length, take}
 use lib.Seq.{length-take-le}
-use Rattle.streams.specs.Cut.{Cut}
+use Rattle.streams.specs.Cut.{CutOff}
 
-module _ (room : ℕ) (bytes : List ℕ) (n more : ℕ) (cut : Cut (length bytes) n more) where
+module _ (room : ℕ) (bytes : List ℕ) (n more : ℕ) (cut : CutOff (length bytes) n more) where
   -- the part that is kept is as long as was read
   pub kept-length : length (take n bytes) ≡ n
   kept-length = length-take-le n bytes (cut .inside)
 
-  pub kept-cut : length bytes ≡ room → Cut room (length (take n bytes)) more
+  pub kept-cut : length bytes ≡ room → CutOff room (length (take n bytes)) more
   kept-cut e = rw (kept-length, ← e) cut

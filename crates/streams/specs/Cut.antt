@@ -4,7 +4,7 @@ use Prim.Native.Nat.{ℕ, _<_, _≤_}
 use mathlib.Core.Path.{_≡_}
 
 -- `room` bytes have room for the first `len` of the text, `more` bytes follow, counted up to 2^32: none unless the room is full
-pub record Cut (room len more : ℕ) : Type 0 where
+pub record CutOff (room len more : ℕ) : Type 0 where
   pub inside : len ≤ room
   pub counted : more ≤ 4294967296
   pub full : 0 < more → len ≡ room

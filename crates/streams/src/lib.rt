@@ -3,7 +3,7 @@
 ghost use mathlib.Core.Path.{_≡_};
 ghost use Prim.Native.Nat.{_≤_};
 ghost use lib.ListN.{length};
-ghost use Rattle.streams.specs.Cut.{Cut};
+ghost use Rattle.streams.specs.Cut.{CutOff};
 ghost use Rattle.streams.specs.Pieces.{pieceOf};
 
 // Whether a read failed, and how many bytes came before.
@@ -104,7 +104,7 @@ fn further_bytes() -> Piece
 
 // Reads the text on standard input: its first bytes into `text`; those that follow are counted.
 pub fn read_text(text: &mut [u8]) -> Input
-    ensures { λ r. ⌜ Cut (length (now (text .exit))) (r .len) (r .more) ⌝ }
+    ensures { λ r. ⌜ CutOff (length (now (text .exit))) (r .len) (r .more) ⌝ }
 {
     let front = read_front(text);
     if front.failed {

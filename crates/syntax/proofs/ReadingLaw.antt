@@ -11,7 +11,7 @@ use lib.ListN.{length, drop, length-drop, drop-of-length-le}
 use Rattle.text.specs.Lex.{tokenAt}
 use Rattle.text.specs.declared.Token.{Token}
 use Rattle.grammar.specs.Machine.{Cell, fails, skips, takes, step}
-use Rattle.grammar.specs.Advance.{outcome, Started, Advanced}
+use Rattle.grammar.specs.Advance.{stepOutcome, Started, Advanced}
 use Rattle.syntax.specs.declared.Turn.{Turn}
 use Rattle.syntax.specs.Kinds.{kindOf}
 use Rattle.syntax.specs.Readings.{Reading, reading, labelled, readingsFrom}
@@ -42,18 +42,18 @@ none-left left expected text at h = let e : left ≡ 0 = omega arith in rw e
 -- one turn
 module _ (left top : ℕ) (before text : List ℕ) (at : ℕ) (r : Turn) (after : List ℕ) (some : 0 < left) (more : top < length before) (t : Turned text at before top r after) where
   one : readingsFrom left (drop top before) text at ≡
-      labelled (r .token) (outcome (r .fits) (r .role) (drop (r .top) after)) (λ x. readingsFrom (left - 1) x text (r .token .end))
+      labelled (r .token) (stepOutcome (r .fits) (r .role) (drop (r .top) after)) (λ x. readingsFrom (left - 1) x text (r .token .end))
   one =
       let n : 0 < length (drop top before) = rw length-drop (omega arith) in
       rw (t .step .steps, t .token) (unrolled left (drop top before) text at some n)
 
   pub turn-wrong : r .fits ≡ false → readingsFrom left (drop top before) text at ≡ reading false 0 (r .token) ∷ []
-  unfolding outcome
+  unfolding stepOutcome
   turn-wrong e = one ∙ rw e
 
   pub turn-right : r .fits ≡ true →
       readingsFrom left (drop top before) text at ≡ reading true (r .role) (r .token) ∷ readingsFrom (left - 1) (drop (r .top) after) text (r .token .end)
-  unfolding outcome
+  unfolding stepOutcome
   turn-right e = one ∙ rw e
 
 -- ten places of the array for each token that may still come

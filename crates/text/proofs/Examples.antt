@@ -6,7 +6,7 @@ use Prim.Native.Nat.{ℕ, zero, suc}
 use Prim.Native.String.{String}
 use Rattle.scan.specs.Ascii.{ascii}
 use Rattle.scan.specs.Bytes.{isLetter, isDigit, isSpace, isSigil, isSign, inRun, runFrom, runEnd, startsWith, inComment, skipFrom, skipEnd}
-use Rattle.scan.specs.TypeText.{byteEnd, wordEnd, digitsEnd, sizeNext, shapeFrom, shapeEnd, complexEnd}
+use Rattle.scan.specs.TypeText.{byteEnd, wordEnd, digitsEnd, sizeNext, shapeEndFrom, shapeEnd, complexEnd}
 use Rattle.scan.specs.Quantized.{signEnd, integerEnd, fractionEnd, scientificEnd, floatEnd, colonEnd, parameterEnd, moreEnd, parametersEnd, storageEnd, quantizedEnd}
 use Rattle.scan.specs.TensorText.{elementEnd, typeClose}
 use Rattle.text.specs.Lex.{tok, markToken, nameEnd, nameToken, signToken, quoteToken, plainWord, tensorToken, wordToken, lexeme, tokenAt}
@@ -93,5 +93,5 @@ rows =
     []
 
 texts-read : read rows ≡ stated rows
-unfolding read stated rows row count tokensFrom isLetter isDigit isSpace isSigil isSign inRun runFrom runEnd startsWith inComment skipFrom skipEnd byteEnd wordEnd digitsEnd sizeNext shapeFrom shapeEnd complexEnd signEnd integerEnd fractionEnd scientificEnd floatEnd colonEnd parameterEnd moreEnd parametersEnd storageEnd quantizedEnd elementEnd typeClose markToken nameEnd nameToken signToken quoteToken plainWord tensorToken wordToken lexeme tokenAt
+unfolding read stated rows row count tokensFrom isLetter isDigit isSpace isSigil isSign inRun runFrom runEnd startsWith inComment skipFrom skipEnd byteEnd wordEnd digitsEnd sizeNext shapeEndFrom shapeEnd complexEnd signEnd integerEnd fractionEnd scientificEnd floatEnd colonEnd parameterEnd moreEnd parametersEnd storageEnd quantizedEnd elementEnd typeClose markToken nameEnd nameToken signToken quoteToken plainWord tensorToken wordToken lexeme tokenAt
 texts-read = refl

@@ -14,26 +14,26 @@ use lib.Seq.{drop-cons}
 use borrow.Author.Tests.{eq-eqb, ne-eqb, le-leb, lt-leb, lt-ltb, le-ltb}
 use Rattle.lists.specs.Lists.{pick, tab}
 use Rattle.lists.proofs.TabLaw.{map-tab, tab-getD}
-use Rattle.scan.specs.TypeText.{sizeNext, shapeFrom, shapeEnd}
+use Rattle.scan.specs.TypeText.{sizeNext, shapeEndFrom, shapeEnd}
 use Rattle.shape.specs.Index.{volume}
 use Rattle.shape.proofs.IndexLaw.{volume-pos}
-use Rattle.types.specs.Tensors.{stretch, dimensionsFrom, countOf, allFit, sizePassed, firstSix}
+use Rattle.types.specs.Tensors.{bytesBetween, dimensionsFrom, byteCount, allFit, typeSizePassed, firstSix}
 
 -- a stretch's first byte, and its end
 
 module _ (text : List ℕ) (i end : ℕ) where
-  pub stretch-step : i < end → end ≤ length text → stretch i end text ≡ getD text i 0 ∷ stretch (i + 1) end text
+  pub stretch-step : i < end → end ≤ length text → bytesBetween i end text ≡ getD text i 0 ∷ bytesBetween (i + 1) end text
   stretch-step h g =
       let e : end - i ≡ suc (end - (i + 1)) = omega arith in
       rw (e, drop-cons text i 0 (omega arith), add-one)
 
-  pub stretch-past : end ≤ i → stretch i end text ≡ []
+  pub stretch-past : end ≤ i → bytesBetween i end text ≡ []
   stretch-past h = let e : end - i ≡ 0 = omega arith in rw e
 
 -- the shape's text ends within the text
 
-shape-from-le : (n : ℕ) (s : List ℕ) (end size at : ℕ) → end ≤ n → at + length s ≤ n → shapeFrom end size at s ≤ n
-unfolding shapeFrom
+shape-from-le : (n : ℕ) (s : List ℕ) (end size at : ℕ) → end ≤ n → at + length s ≤ n → shapeEndFrom end size at s ≤ n
+unfolding shapeEndFrom
 shape-from-le n [] end size at h g = h
 shape-from-le n (b ∷ bs) end size at h g =
     let next = sizeNext size b in
@@ -89,48 +89,48 @@ unfolding cappedFrom
 capped-digit v b s n = rw (ne-eqb b 120 n)
 
 -- the loop for one dimension, which is m: left more dimensions stand before it
-module _ (text : List ℕ) (i end left v m : ℕ) (is : getD (cappedFrom v (stretch i end text)) left 0 ≡ m) where
+module _ (text : List ℕ) (i end left v m : ℕ) (is : getD (cappedFrom v (bytesBetween i end text)) left 0 ≡ m) where
   pub dimension-past : end ≤ i → 0 ≡ m
   unfolding cappedFrom
   dimension-past h = rw (stretch-past text i end h) at is
 
   module _ (h : i < end) (g : end ≤ length text) where
     pub dimension-here : getD text i 0 ≡ 120 → left ≡ 0 → v ≡ m
-    dimension-here e z = rw (stretch-step text i end h g, capped-x v _ (stretch (i + 1) end text) e, z) at is
+    dimension-here e z = rw (stretch-step text i end h g, capped-x v _ (bytesBetween (i + 1) end text) e, z) at is
 
-    pub dimension-next : getD text i 0 ≡ 120 → (left ≡ 0 → ⊥) → getD (cappedFrom 0 (stretch (i + 1) end text)) (left - 1) 0 ≡ m
-    dimension-next e n = one-less left (cappedFrom 0 (stretch (i + 1) end text)) n (rw (stretch-step text i end h g, capped-x v _ (stretch (i + 1) end text) e) at is)
+    pub dimension-next : getD text i 0 ≡ 120 → (left ≡ 0 → ⊥) → getD (cappedFrom 0 (bytesBetween (i + 1) end text)) (left - 1) 0 ≡ m
+    dimension-next e n = one-less left (cappedFrom 0 (bytesBetween (i + 1) end text)) n (rw (stretch-step text i end h g, capped-x v _ (bytesBetween (i + 1) end text) e) at is)
       where
         one-less : (k : ℕ) (r : List ℕ) → (k ≡ 0 → ⊥) → getD (v ∷ r) k 0 ≡ m → getD r (k - 1) 0 ≡ m
         one-less zero r n q = absurd (n refl)
         one-less (suc k) r n q = simp unary-clauses q
 
-    pub dimension-digit : (getD text i 0 ≡ 120 → ⊥) → getD (cappedFrom (min (v * 10 + (getD text i 0 - 48)) 4097) (stretch (i + 1) end text)) left 0 ≡ m
-    dimension-digit n = rw (stretch-step text i end h g, capped-digit v _ (stretch (i + 1) end text) n) at is
+    pub dimension-digit : (getD text i 0 ≡ 120 → ⊥) → getD (cappedFrom (min (v * 10 + (getD text i 0 - 48)) 4097) (bytesBetween (i + 1) end text)) left 0 ≡ m
+    dimension-digit n = rw (stretch-step text i end h g, capped-digit v _ (bytesBetween (i + 1) end text) n) at is
 
 -- the loop that counts a byte: n so far, m in all
-module _ (text : List ℕ) (i end b n m : ℕ) (is : n + countOf b (stretch i end text) ≡ m) where
+module _ (text : List ℕ) (i end b n m : ℕ) (is : n + byteCount b (bytesBetween i end text) ≡ m) where
   pub count-past : end ≤ i → n ≡ m
-  unfolding countOf
+  unfolding byteCount
   count-past h = let e : n + 0 ≡ m = rw (stretch-past text i end h) at is in omega arith
 
   module _ (h : i < end) (g : end ≤ length text) where
-    pub count-one : getD text i 0 ≡ b → n + 1 + countOf b (stretch (i + 1) end text) ≡ m
-    unfolding countOf
-    count-one e = let q : n + (countOf b (stretch (i + 1) end text) + 1) ≡ m = rw (stretch-step text i end h g, eq-eqb _ _ e) at is in omega arith
+    pub count-one : getD text i 0 ≡ b → n + 1 + byteCount b (bytesBetween (i + 1) end text) ≡ m
+    unfolding byteCount
+    count-one e = let q : n + (byteCount b (bytesBetween (i + 1) end text) + 1) ≡ m = rw (stretch-step text i end h g, eq-eqb _ _ e) at is in omega arith
 
-    pub count-other : (getD text i 0 ≡ b → ⊥) → n + countOf b (stretch (i + 1) end text) ≡ m
-    unfolding countOf
+    pub count-other : (getD text i 0 ≡ b → ⊥) → n + byteCount b (bytesBetween (i + 1) end text) ≡ m
+    unfolding byteCount
     count-other e = rw (stretch-step text i end h g, ne-eqb _ _ e) at is
 
 -- as many dimensions as 'x'
-pub rank-count : (s : List ℕ) (v : ℕ) → countOf 120 s ≡ length (dimensionsFrom v s)
-unfolding countOf dimensionsFrom
+pub rank-count : (s : List ℕ) (v : ℕ) → byteCount 120 s ≡ length (dimensionsFrom v s)
+unfolding byteCount dimensionsFrom
 rank-count [] v = refl
 rank-count (b ∷ bs) v = by-test (eqb b 120) (rank-count bs 0) (rank-count bs (v * 10 + (b - 48)))
   where
-    by-test : (x : Bool) → countOf 120 bs ≡ length (dimensionsFrom 0 bs) → countOf 120 bs ≡ length (dimensionsFrom (v * 10 + (b - 48)) bs) →
-        pick x (countOf 120 bs + 1) (countOf 120 bs)
+    by-test : (x : Bool) → byteCount 120 bs ≡ length (dimensionsFrom 0 bs) → byteCount 120 bs ≡ length (dimensionsFrom (v * 10 + (b - 48)) bs) →
+        pick x (byteCount 120 bs + 1) (byteCount 120 bs)
         ≡ length (pick x (v ∷ dimensionsFrom (pick x 0 (v * 10 + (b - 48))) bs) (dimensionsFrom (pick x 0 (v * 10 + (b - 48))) bs))
     by-test true p q = rw p (add-one _)
     by-test false p q = q
@@ -182,8 +182,8 @@ six ds h =
     take-tab (length ds) 6 (λ k. cap (getD ds k 0)) h
     ∙ sym (map-tab cap (length ds) (λ k. getD ds k 0)) ∙ ap (λ (l : List ℕ). map cap l) (tab-getD ds 0)
 
-pub passed-same : (ds : List ℕ) → pick (ltb 6 (length ds)) 1 (pick (ltb 4096 (volume (take (length ds) (firstSix ds)))) 2 0) ≡ sizePassed ds
-unfolding sizePassed
+pub passed-same : (ds : List ℕ) → pick (ltb 6 (length ds)) 1 (pick (ltb 4096 (volume (take (length ds) (firstSix ds)))) 2 0) ≡ typeSizePassed ds
+unfolding typeSizePassed
 passed-same ds = by-place (decLt 6 (length ds))
   where
     by-fit : (n : ℕ) → _≡_ {A = ℕ} (pick (ltb 4096 n) 2 0) (pick (leb n 4096) 0 2)

@@ -17,12 +17,12 @@ use Rattle.scan.specs.TensorText.{typeClose}
 use Rattle.shape.specs.Index.{volume}
 use Rattle.shape.specs.Dims.{dimsOf, Sized}
 use Rattle.element.specs.declared.ElementType.{ElementType}
-use Rattle.types.specs.Tensors.{elementNamed, stretch, dimensionsFrom, countOf, allFit, sizePassed, typed, foreign, typeAfter, typeOf}
+use Rattle.types.specs.Tensors.{elementNamed, bytesBetween, dimensionsFrom, byteCount, allFit, typeSizePassed, typed, foreign, typeAfter, typeOf}
 use Rattle.types.proofs.ShapeLaw.{six, uncut}
 
 -- no size is passed
-sizes : (ds : List ℕ) → sizePassed ds ≡ 0 → (length ds ≤ 6) × (volume ds ≤ 4096)
-unfolding sizePassed
+sizes : (ds : List ℕ) → typeSizePassed ds ≡ 0 → (length ds ≤ 6) × (volume ds ≤ 4096)
+unfolding typeSizePassed
 sizes ds e = by-rank (decLt 6 (length ds))
   where
     by-fit : (a b : Bool) → _≡_ {A = ℕ} (pick (a && b) 0 2) 0 → b ≡ true
@@ -60,8 +60,8 @@ after-sized : (text : List ℕ) (at : ℕ) → typeAfter text at .known ≡ true
 unfolding typeAfter
 after-sized text at =
     let name = elementNamed text (shapeEnd text at) (typeClose text at) in
-    let shape = stretch at (shapeEnd text at) text in
-    by-known (name .known && eqb (countOf 63 shape) 0) (name .element) (dimensionsFrom 0 shape)
+    let shape = bytesBetween at (shapeEnd text at) text in
+    by-known (name .known && eqb (byteCount 63 shape) 0) (name .element) (dimensionsFrom 0 shape)
 
 pub type-sized : (text : List ℕ) (start : ℕ) → typeOf text start .known ≡ true → typeOf text start .passed ≡ 0 → Sized (typeOf text start .shape)
 unfolding typeOf

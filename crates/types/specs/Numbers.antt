@@ -29,8 +29,8 @@ abbrev pub negativeAt : List ℕ → ℕ → Bool
 negativeAt text start = eqb (byteAt text start) 45
 
 -- IntegerLiteral ::= ['-' | '+'] DecimalDigits: the number whose token starts here ("numbers are decimal")
-unfoldable pub numberOf : List ℕ → ℕ → ℤ
-numberOf text start = pick (negativeAt text start) (negℤ (pos (magnitudeOf text start))) (pos (magnitudeOf text start))
+unfoldable pub decimalNumber : List ℕ → ℕ → ℤ
+decimalNumber text start = pick (negativeAt text start) (negℤ (pos (magnitudeOf text start))) (pos (magnitudeOf text start))
 
 -- the same as the code holds it: the sign, whether the rest is 2^64 or more, and if it is not, the rest
 unfoldable pub asDecimal : Bool → ℕ → Decimal

@@ -5,7 +5,7 @@ ghost use mathlib.Core.Bool.{false};
 ghost use lib.IntN.{pos, negsuc, negℤ};
 ghost use lib.ListN.{drop};
 ghost use lib.Dec.{leb};
-ghost use Rattle.types.specs.Numbers.{digitsFrom, asDecimal, decimalOf, numberOf, numberIn, patternIn};
+ghost use Rattle.types.specs.Numbers.{digitsFrom, asDecimal, decimalOf, decimalNumber, numberIn, patternIn};
 use element::ElementType;
 use element::slot_for;
 use scan::bytes::byte_at;
@@ -150,7 +150,7 @@ fn negated(m: u64, t: ElementType) -> Number
 
 // The number whose token starts at `start`, as a slot of type t.
 pub fn number_in(text: &[u8], start: usize, t: ElementType) -> Number
-    ensures { λ r. ⌜ r ≡ numberIn t (numberOf (now (text .entry)) start) ⌝ }
+    ensures { λ r. ⌜ r ≡ numberIn t (decimalNumber (now (text .entry)) start) ⌝ }
 {
     let d = decimal_at(text, start);
     if d.big {
@@ -202,7 +202,7 @@ fn negated_pattern(m: u64) -> Number
 
 // The attribute number whose token starts at `start`, as a pattern of 64 bits (size 7).
 pub fn pattern_in(text: &[u8], start: usize) -> Number
-    ensures { λ r. ⌜ r ≡ patternIn (numberOf (now (text .entry)) start) ⌝ }
+    ensures { λ r. ⌜ r ≡ patternIn (decimalNumber (now (text .entry)) start) ⌝ }
 {
     let d = decimal_at(text, start);
     if d.big {

@@ -9,7 +9,7 @@ ghost use Rattle.scan.specs.Bytes.{startsWith};
 ghost use Rattle.text.specs.Names.{wordIs};
 ghost use Rattle.shape.specs.Index.{volume};
 ghost use Rattle.shape.specs.Dims.{dimsOf};
-ghost use Rattle.types.specs.Tensors.{widthNamed, elementNamed, stretch, dimensionsFrom, countOf, typed, foreign, typeAfter, typeOf};
+ghost use Rattle.types.specs.Tensors.{widthNamed, elementNamed, bytesBetween, dimensionsFrom, byteCount, typed, foreign, typeAfter, typeOf};
 use crate::numbers::digit_of;
 use element::ElementType;
 use limits::Limits;
@@ -176,7 +176,7 @@ fn element_named(text: &[u8], start: usize, end: usize) -> Named
 // How often `b` stands from `at` up to `end`.
 fn count_byte(text: &[u8], at: usize, end: usize, b: u8) -> usize
     requires { ⌜ end ≤ length (now text) ⌝ }
-    ensures { λ r. ⌜ r ≡ countOf b (stretch at end (now (text .entry))) ⌝ }
+    ensures { λ r. ⌜ r ≡ byteCount b (bytesBetween at end (now (text .entry))) ⌝ }
 {
     let mut n = 0;
     let mut i = at;
@@ -206,7 +206,7 @@ fn with_digit(v: usize, b: u8) -> usize
 // Dimension k of the shape from `at` up to `end`, 4,097 for all above 4,096, 0 where there is none.
 fn dimension(text: &[u8], at: usize, end: usize, k: usize) -> usize
     requires { ⌜ end ≤ length (now text) ⌝ }
-    ensures { λ r. ⌜ r ≡ min (getD (dimensionsFrom 0 (stretch at end (now (text .entry)))) k 0) 4097 ⌝ }
+    ensures { λ r. ⌜ r ≡ min (getD (dimensionsFrom 0 (bytesBetween at end (now (text .entry)))) k 0) 4097 ⌝ }
 {
     let mut left = k;
     let mut v = 0;
@@ -243,7 +243,7 @@ fn size_passed(s: Shape) -> u8
 // The type of this element and of the shape from `at` up to `end`.
 fn typed_by(text: &[u8], at: usize, end: usize, element: ElementType) -> TypeRead
     requires { ⌜ end ≤ length (now text) ⌝ }
-    ensures { λ r. ⌜ r ≡ typed element (dimensionsFrom 0 (stretch at end (now (text .entry)))) ⌝ }
+    ensures { λ r. ⌜ r ≡ typed element (dimensionsFrom 0 (bytesBetween at end (now (text .entry)))) ⌝ }
 {
     let rank = count_byte(text, at, end, b'x');
     let d0 = dimension(text, at, end, 0);

@@ -15,15 +15,15 @@ use Rattle.opcheck.specs.declared.Operation.{Operation}
 use Rattle.places.specs.Places.{opName, resultName, operandType, resultType, bodyOpen, countOf, placeOf, blankType, typeOfPart}
 use Rattle.values.specs.declared.Value.{Value}
 use Rattle.operands.specs.Operands.{arityOf, operandsTyped}
-use Rattle.attributes.specs.Attributes.{attributesFit, numbersOf, choiceOf, denseType}
+use Rattle.attributes.specs.Attributes.{attributesFit, attributeNumbers, choiceOf, denseType}
 use Rattle.bodies.specs.Bodies.{rowNamed, bodyFits, argumentType}
 use Rattle.typing.specs.declared.Judged.{Judged}
 
 -- ---- what is read of an op
 
 -- its row of the op table
-unfoldable pub rowOf : List ℕ → Parts → Row
-rowOf text op = rowAt (rowNamed text (placeOf op opName 0))
+unfoldable pub rowNamedIn : List ℕ → Parts → Row
+rowNamedIn text op = rowAt (rowNamed text (placeOf op opName 0))
 
 -- the types of its operands as written
 unfoldable pub typesOf : List ℕ → Parts → ℕ → TensorType
@@ -39,9 +39,9 @@ operationOf text op row =
       arity = arityOf op;
       types = tab 8 (typesOf text op);
       result = typeOfPart text op resultType 0;
-      a = numbersOf text op (row .a);
-      b = numbersOf text op (row .b);
-      c = numbersOf text op (row .c);
+      a = attributeNumbers text op (row .a);
+      b = attributeNumbers text op (row .b);
+      c = attributeNumbers text op (row .c);
       choice = choiceOf text op compareType;
       value = denseType text op value;
       left = bodyType text op row 0;
@@ -82,6 +82,6 @@ typedOp text op row values n =
 -- a refusal of kind 7 or 8 and its B; 0: none
 unfoldable pub opJudged : List ℕ → Parts → List Value → ℕ → Judged
 opJudged text op values n =
-    let row = rowOf text op in
+    let row = rowNamedIn text op in
     let c = brokenBy (row .rule) (operationOf text op row) in
     pick (typedOp text op row values n) (record { refusal = pick (eqb c 0) 0 8; b = c }) (record { refusal = 7; b = 0 })

@@ -26,7 +26,7 @@ ghost use Prim.Native.Nat.{_<_, _≤_};
 ghost use lib.Dec.{eqb};
 ghost use Rattle.lists.specs.Lists.{tab, pick};
 ghost use Rattle.operands.specs.Operands.{arityOf};
-ghost use Rattle.typing.specs.Typing.{rowOf, typesOf, bodyType, operationOf, resultsAre, bodiesFit, inTable, typedOp, opJudged};
+ghost use Rattle.typing.specs.Typing.{rowNamedIn, typesOf, bodyType, operationOf, resultsAre, bodiesFit, inTable, typedOp, opJudged};
 
 // A refusal of kind 7 or 8 and its B; refusal 0: none.
 pub struct Judged {
@@ -36,7 +36,7 @@ pub struct Judged {
 
 // The op's row of the op table.
 pub fn row_of(text: &[u8], op: Parts) -> Row
-    ensures { λ r. ⌜ r ≡ rowOf (now (text .entry)) op ⌝ }
+    ensures { λ r. ⌜ r ≡ rowNamedIn (now (text .entry)) op ⌝ }
 {
     op_row(row_named(text, place_of(op, Part::OP_NAME, 0)))
 }

@@ -4,7 +4,7 @@ use mathlib.Core.List.{List, [], _∷_, map}
 use Prim.Native.Nat.{ℕ}
 use Rattle.element.specs.declared.ElementType.{ElementType}
 use Rattle.element.specs.declared.ElementType.the-variants.{I1, I8, I16, I32, I64, U8, U16, U32, U64}
-use Rattle.division.specs.Division.{divisionOf, numbersOf}
+use Rattle.division.specs.Division.{divisionOf, dividedNumbers}
 use Rattle.division.specs.declared.Divided.the-variants.{Value, ByZero}
 use Rattle.division.specs.declared.Division.{Division}
 use Rattle.division.specs.declared.Division.the-variants.{Divide, Remainder}
@@ -101,7 +101,7 @@ scalarPins =
     ∷ refusalPin Divide I8 (5 ∷ 0 ∷ neg 128 ∷ 5 ∷ []) (0 ∷ 0 ∷ 0 ∷ 1 ∷ []) (12 ∷ 12 ∷ 12 ∷ 0 ∷ [])
     ∷ refusalPin Remainder I8 (5 ∷ 0 ∷ neg 128 ∷ 5 ∷ []) (0 ∷ 0 ∷ 0 ∷ 1 ∷ []) (12 ∷ 12 ∷ 12 ∷ 0 ∷ [])
     ∷ refusalPin Divide U64 (18446744073709551615 ∷ 0 ∷ []) (0 ∷ 1 ∷ []) (12 ∷ 0 ∷ [])
-    ∷ valuePin (numbersOf (Value 5) .0 ∷ numbersOf (Value 5) .1 ∷ numbersOf ByZero .0 ∷ numbersOf ByZero .1 ∷ []) (0 ∷ 5 ∷ 12 ∷ 0 ∷ [])
+    ∷ valuePin (dividedNumbers (Value 5) .0 ∷ dividedNumbers (Value 5) .1 ∷ dividedNumbers ByZero .0 ∷ dividedNumbers ByZero .1 ∷ []) (0 ∷ 5 ∷ 12 ∷ 0 ∷ [])
     -- "abs of the lowest value saturates to the highest"
     ∷ unaryPin Abs I8 (neg 128 ∷ neg 127 ∷ neg 1 ∷ 0 ∷ 1 ∷ 127 ∷ []) (127 ∷ 127 ∷ 1 ∷ 0 ∷ 1 ∷ 127 ∷ [])
     ∷ unaryPin Abs I64 (neg 9223372036854775808 ∷ neg 1 ∷ 1 ∷ []) (9223372036854775807 ∷ 1 ∷ 1 ∷ [])

@@ -22,8 +22,8 @@ use Rattle.dimrules.specs.Whole.{numberOf}
 use Rattle.optable.specs.declared.Row.{Row}
 use Rattle.optable.specs.declared.Rule.{Rule}
 use Rattle.optable.specs.declared.Rule.the-variants.{SameTypes, Abs, Broadcast, Clamp, Compare, Concatenate, Constant, Convert, DynamicSlice, Iota, Pad, Reduce, Reshape, Reverse, Select, Slice, Transpose}
-use Rattle.optable.specs.Table.{Op, ops, rowOf, value, iotaDimension, broadcastDimensions, permutation, startIndices, limitIndices, strides, dimension, edgePaddingLow, edgePaddingHigh, interiorPadding, dimensions, sliceSizes, comparisonDirection, compareType, attributes, attributeNames}
-use Rattle.optable.specs.Names.{same, placeIn}
+use Rattle.optable.specs.Table.{OpRow, ops, rowOf, value, iotaDimension, broadcastDimensions, permutation, startIndices, limitIndices, strides, dimension, edgePaddingLow, edgePaddingHigh, interiorPadding, dimensions, sliceSizes, comparisonDirection, compareType, attributes, attributeNames}
+use Rattle.optable.specs.Names.{same, namePlace}
 use Rattle.program.specs.declared.Parts.{Parts}
 use Rattle.places.specs.Places.{bodyOpen, placeOf, typeIn, typeOfPart, blankType}
 use Rattle.checks.specs.Check.{Check}
@@ -31,7 +31,7 @@ use Rattle.checks.specs.Formula.{ints}
 use Rattle.op_checks.specs.OpChecks.{typesFrom}
 use Rattle.opcheck.specs.Judged.{checksBy}
 use Rattle.opcheck.specs.declared.Operation.{Operation}
-use Rattle.attributes.specs.Attributes.{numbersOf, choiceOf, denseType}
+use Rattle.attributes.specs.Attributes.{attributeNumbers, choiceOf, denseType}
 use Rattle.bodies.specs.Bodies.{argumentType}
 use Rattle.operands.specs.Operands.{arityOf}
 use Rattle.typing.specs.Typing.{typesOf, bodyType, operationOf}
@@ -64,18 +64,18 @@ requiredBy Select = []
 requiredBy Slice = startIndices ∷ limitIndices ∷ strides ∷ []
 requiredBy Transpose = permutation ∷ []
 
-each : (Op → Bool) → List Op → Bool
+each : (OpRow → Bool) → List OpRow → Bool
 each t [] = true
 each t (o ∷ os) = t o && each t os
 
-each-at : (t : Op → Bool) (os : List Op) → each t os ≡ true → (i : ℕ) → i < length os → t (getD os i noOp) ≡ true
+each-at : (t : OpRow → Bool) (os : List OpRow) → each t os ≡ true → (i : ℕ) → i < length os → t (getD os i noOp) ≡ true
 unfolding each
 each-at t [] e i h = absurd (not-suc-le-zero h)
 each-at t (o ∷ os) e zero h = both-true (t o) (each t os) e .0
 each-at t (o ∷ os) e (suc i) h = each-at t os (both-true (t o) (each t os) e .1) i (le-of-suc-le-suc h)
 
 all-required : each (λ o. sameBytes (o .required) (requiredBy (o .rule))) ops ≡ true
-unfolding each ops sameBytes attributes attributeNames placeIn same firstWhere
+unfolding each ops sameBytes attributes attributeNames namePlace same firstWhere
 all-required = refl
 
 pub required-is : (i : ℕ) → i < length ops → getD ops i noOp .required ≡ requiredBy (getD ops i noOp .rule)
@@ -123,7 +123,7 @@ first-number a = go (a .count) refl
 
 -- ---- an op, where its parts are those of the lists
 
-module _ (text : List ℕ) (op : Parts) (o : OpText) (same : SameParts op o) (r : Op) (place : ℕ) (long : length (o .operandTypes) ≡ length (o .operands)) where
+module _ (text : List ℕ) (op : Parts) (o : OpText) (same : SameParts op o) (r : OpRow) (place : ℕ) (long : length (o .operandTypes) ≡ length (o .operands)) where
   abbrev row : Row
   row = rowOf place r
 
@@ -201,7 +201,7 @@ module _ (text : List ℕ) (op : Parts) (o : OpText) (same : SameParts op o) (r 
 
   -- what is read of its attributes and of its body
   pub record Read : Type 0 where
-    pub numbers : (k : ℕ) → ints (numbersOf text op k) ≡ numbersNamed text k (o .attributes)
+    pub numbers : (k : ℕ) → ints (attributeNumbers text op k) ≡ numbersNamed text k (o .attributes)
     pub choice : choiceOf text op compareType ≡ choiceNamedBy text compareType (o .attributes)
     pub dense : r .rule ≡ Constant → denseType text op value ≡ typeWritten text (attributeWith text value (o .attributes))
     pub argument : r .rule ≡ Reduce → (j : ℕ) → j < 2 → bodyType text op row j ≡ argumentTypeOf text o j

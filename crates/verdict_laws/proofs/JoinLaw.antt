@@ -16,7 +16,7 @@ use Rattle.dimrules.specs.declared.TensorType.{TensorType}
 use Rattle.syntax.specs.Readings.{Reading, readingsOf}
 use Rattle.grammar.specs.Symbols.{Op}
 use Rattle.optable.specs.declared.Row.{Row}
-use Rattle.optable.specs.Table.{Op as OpRow, ops, rowAt, rowsFrom, noRow, rowOf as rowFor}
+use Rattle.optable.specs.Table.{OpRow, ops, rowAt, rowsFrom, noRow, rowOf as rowFor}
 use Rattle.judge.specs.declared.Refusal.{Refusal}
 use Rattle.judge.specs.Judge.{refuse, accepted, textRefusal}
 use Rattle.program.specs.declared.Parts.{Parts}
@@ -36,7 +36,7 @@ use Rattle.attributes.specs.Attributes.{attributesFit}
 use Rattle.bodies.specs.Bodies.{bodyFits, rowNamed}
 use Rattle.operands.specs.Operands.{valueNamed}
 use Rattle.typing.specs.declared.Judged.{Judged}
-use Rattle.typing.specs.Typing.{rowOf, operationOf, inTable, typedOp, opJudged}
+use Rattle.typing.specs.Typing.{rowNamedIn, operationOf, inTable, typedOp, opJudged}
 use Rattle.outputs.specs.Outputs.{typedReturn, returnJudged}
 use Rattle.opwise.specs.Opwise.{byName, byOp, typingOf, opRefusal, opsFrom}
 use Rattle.verify.specs.Verify.{programRefusal, verdict}
@@ -136,8 +136,8 @@ module _ (text : List ℕ) (read : textRefusal text .number ≡ 0) where
   unfolding rowNamed
   number-same k h = rw (same k h .names .place 0 (omega arith)) refl
 
-  pub row-same : (k : ℕ) → k + 1 < p .count → (place : ℕ) × (rowOf text (op k) ≡ rowFor place (rowWritten text (o k)))
-  unfolding rowOf rowAt inTable
+  pub row-same : (k : ℕ) → k + 1 < p .count → (place : ℕ) × (rowNamedIn text (op k) ≡ rowFor place (rowWritten text (o k)))
+  unfolding rowNamedIn rowAt inTable
   row-same k h =
       let n = number-same k (omega arith) in
       let i = row-among 0 ops (rowNamed text (placeOf (op k) opName 0)) (ltb-true (rowNamed text (placeOf (op k) opName 0)) (length ops) (known-op text read k h)) in
@@ -189,9 +189,9 @@ module _ (text : List ℕ) (read : textRefusal text .number ≡ 0) where
           return-same text (op k) (o k) (same k h) (p .header) (f .outputTypes) (same-header text read .outputTypes) (vs .list) known (vs .inputs + k) before defined-before
 
       module _ (inside : k + 1 < p .count)
-          (fit : attributesFit text (op k) (rowOf text (op k)) ≡ not (wrongAttribute text (rowWritten text (o k) .required) (rowWritten text (o k) .optional) (o k)) && not (wrongDense text (o k)))
+          (fit : attributesFit text (op k) (rowNamedIn text (op k)) ≡ not (wrongAttribute text (rowWritten text (o k) .required) (rowWritten text (o k) .optional) (o k)) && not (wrongDense text (o k)))
           (formed : rowWritten text (o k) .body ≡ true → length (o k .bodies) ≡ 1 → bodyFits text (placeOf (op k) bodyOpen 0) ≡ ofBodyForm text (bodyFrom (getD (o k .bodies) 0 []))) where
-        pub op-typed : typedOp text (op k) (rowOf text (op k)) (vs .list) (vs .inputs + k) ≡ opTyped text (rowWritten text (o k)) known (o k)
+        pub op-typed : typedOp text (op k) (rowNamedIn text (op k)) (vs .list) (vs .inputs + k) ≡ opTyped text (rowWritten text (o k)) known (o k)
         op-typed =
             let r = row-same k inside in
             rw (r .1)
@@ -199,10 +199,10 @@ module _ (text : List ℕ) (read : textRefusal text .number ≡ 0) where
 
   -- what the code reads of op k's attributes, of its body and of its constraints is what is written
   pub record OpAgrees (k : ℕ) : Type 0 where
-    pub fit : attributesFit text (op k) (rowOf text (op k)) ≡ not (wrongAttribute text (rowWritten text (o k) .required) (rowWritten text (o k) .optional) (o k)) && not (wrongDense text (o k))
+    pub fit : attributesFit text (op k) (rowNamedIn text (op k)) ≡ not (wrongAttribute text (rowWritten text (o k) .required) (rowWritten text (o k) .optional) (o k)) && not (wrongDense text (o k))
     pub formed : rowWritten text (o k) .body ≡ true → length (o k .bodies) ≡ 1 → bodyFits text (placeOf (op k) bodyOpen 0) ≡ ofBodyForm text (bodyFrom (getD (o k .bodies) 0 []))
-    pub broken : typedOp text (op k) (rowOf text (op k)) (vs .list) (vs .inputs + k) ≡ true →
-        brokenBy (rowOf text (op k) .rule) (operationOf text (op k) (rowOf text (op k))) ≡ brokenNumber (checksWritten text (o k) (rowWritten text (o k) .rule))
+    pub broken : typedOp text (op k) (rowNamedIn text (op k)) (vs .list) (vs .inputs + k) ≡ true →
+        brokenBy (rowNamedIn text (op k) .rule) (operationOf text (op k) (rowNamedIn text (op k))) ≡ brokenNumber (checksWritten text (o k) (rowWritten text (o k) .rule))
 
   module _ (k : ℕ) (known : List Value) (before : KnownBefore (vs .list) (vs .inputs + k) known) where
     abbrev names : NameFault
@@ -217,10 +217,10 @@ module _ (text : List ℕ) (read : textRefusal text .number ≡ 0) where
         go (eqb (names .refusal) 0) refl ∙ ap (λ (n : NameFault). inTurn n (opTyped text (rowWritten text (o k)) known (o k)) (brokenNumber (checksWritten text (o k) (rowWritten text (o k) .rule))) k) (names-at k (omega arith) known before)
       where
         typed : Bool
-        typed = typedOp text (op k) (rowOf text (op k)) (vs .list) (vs .inputs + k)
+        typed = typedOp text (op k) (rowNamedIn text (op k)) (vs .list) (vs .inputs + k)
 
         c : ℕ
-        c = brokenBy (rowOf text (op k) .rule) (operationOf text (op k) (rowOf text (op k)))
+        c = brokenBy (rowNamedIn text (op k) .rule) (operationOf text (op k) (rowNamedIn text (op k)))
 
         c2 : ℕ
         c2 = brokenNumber (checksWritten text (o k) (rowWritten text (o k) .rule))

@@ -19,7 +19,7 @@ use Rattle.operands.specs.Operands.{valueNamed, arityOf, operandsTyped}
 use Rattle.typing.specs.Typing.{resultsAre}
 use Rattle.outputs.specs.Outputs.{returnedAt, returnsHeader, typedReturn}
 use Rattle.source.specs.Source.{AttributeText, OpText}
-use Rattle.verifier.specs.AttributeRules.{firstToken, pairwise, someOf, doubledAttribute, foreignAttribute, otherKind}
+use Rattle.verifier.specs.AttributeRules.{firstToken, pairwise, someOf, doubledAttribute, foreignAttribute, unlikeKind}
 use Rattle.verifier.specs.BodyForm.{hasLength}
 use Rattle.values.specs.Values.{noValue}
 use Rattle.verifier.specs.Reasons.{valueOfName, wrongNumber, otherOperandType, wrongAttribute, otherReturnTypes, returnTyped}
@@ -42,11 +42,11 @@ foreign-wrong false k f e = rw e refl
 no-attributes : (text : List ℕ) (o : OpText) → not (wrongAttribute text [] [] o) ≡ hasLength (o .attributes) 0
 no-attributes text o = by (o .attributes)
   where
-    by : (attrs : List AttributeText) → not (false || doubledAttribute text attrs || foreignAttribute text [] attrs || someOf (otherKind text) attrs) ≡ hasLength attrs 0
+    by : (attrs : List AttributeText) → not (false || doubledAttribute text attrs || foreignAttribute text [] attrs || someOf (unlikeKind text) attrs) ≡ hasLength attrs 0
     by [] = refl
     by (a ∷ attrs) =
         let z : eqb (suc (length attrs)) 0 ≡ false = ne-eqb (suc (length attrs)) 0 (λ h. omega arith) in
-        foreign-wrong (doubledAttribute text (a ∷ attrs)) (someOf (otherKind text) (a ∷ attrs)) (foreignAttribute text [] (a ∷ attrs)) refl ∙ sym z
+        foreign-wrong (doubledAttribute text (a ∷ attrs)) (someOf (unlikeKind text) (a ∷ attrs)) (foreignAttribute text [] (a ∷ attrs)) refl ∙ sym z
 
 module _ (text : List ℕ) (op : Parts) (o : OpText) (same : SameParts op o) (header : Parts) (outputs : List ℕ) (listed : PartWhole header outputType outputs) where
   abbrev sameWritten : ℕ → ℕ → Bool
@@ -72,18 +72,18 @@ module _ (text : List ℕ) (op : Parts) (o : OpText) (same : SameParts op o) (he
   header-same l =
       same-tests (returnsHeader text op header) (pairwise sameWritten (o .operandTypes) outputs)
       (λ e.
-        let two = both-true (eqb (countOf op operandName) (countOf header outputType)) (everywhere (arityOf op) (returnedAt text op header)) e in
-        let c = eqb-true (countOf op operandName) (countOf header outputType) (two .0) in
-        at-pair sameWritten (o .operandTypes) outputs (sym (listed .count) ∙ sym c ∙ same .operands .count ∙ sym l)
-        (λ j h. let few = same .operandTypes .few in sym (returned-at j (omega arith)) ∙ holds-at (arityOf op) (returnedAt text op header) (two .1) j (rw (arity-is text op o same) (rw l at h))))
+      let two = both-true (eqb (countOf op operandName) (countOf header outputType)) (everywhere (arityOf op) (returnedAt text op header)) e in
+      let c = eqb-true (countOf op operandName) (countOf header outputType) (two .0) in
+      at-pair sameWritten (o .operandTypes) outputs (sym (listed .count) ∙ sym c ∙ same .operands .count ∙ sym l)
+      (λ j h. let few = same .operandTypes .few in sym (returned-at j (omega arith)) ∙ holds-at (arityOf op) (returnedAt text op header) (two .1) j (rw (arity-is text op o same) (rw l at h))))
       (λ e.
-        let c : countOf op operandName ≡ countOf header outputType = same .operands .count ∙ sym l ∙ sym (pair-length sameWritten (o .operandTypes) outputs e) ∙ sym (listed .count) in
-        and-true (eqb (countOf op operandName) (countOf header outputType)) (everywhere (arityOf op) (returnedAt text op header)) (eq-eqb (countOf op operandName) (countOf header outputType) c)
-        (holds-below (arityOf op) (returnedAt text op header)
-          (λ j h.
-            let few = same .operands .few in
-            let m : j < length (o .operands) = rw (arity-is text op o same) at h in
-            returned-at j (omega arith) ∙ pair-at sameWritten (o .operandTypes) outputs e j (rw l m))))
+      let c : countOf op operandName ≡ countOf header outputType = same .operands .count ∙ sym l ∙ sym (pair-length sameWritten (o .operandTypes) outputs e) ∙ sym (listed .count) in
+      and-true (eqb (countOf op operandName) (countOf header outputType)) (everywhere (arityOf op) (returnedAt text op header)) (eq-eqb (countOf op operandName) (countOf header outputType) c)
+      (holds-below (arityOf op) (returnedAt text op header)
+      (λ j h.
+      let few = same .operands .few in
+      let m : j < length (o .operands) = rw (arity-is text op o same) at h in
+      returned-at j (omega arith) ∙ pair-at sameWritten (o .operandTypes) outputs e j (rw l m))))
 
   module _ (values known : List Value) (n : ℕ) (k : KnownBefore values n known)
       (before : (j : ℕ) → j < length (o .operands) → valueNamed text values n (getD (o .operands) j 0) < n) where
@@ -124,7 +124,7 @@ module _ (text : List ℕ) (op : Parts) (o : OpText) (same : SameParts op o) (he
             let lengths = pair-length sameWritten (o .operandTypes) outputs h in
             let c : counts ≡ true = and-true (leb 0 (length (o .operands))) (leb (length (o .operands)) (length outputs)) (le-leb 0 (length (o .operands)) (omega arith)) (le-leb (length (o .operands)) (length outputs) (omega arith)) in
             let m : counts && results && hasLength (o .bodies) 0 ≡ true =
-                and-true (counts && results) (hasLength (o .bodies) 0) (and-true counts results c (sym (results-same text op o same 0) ∙ e1 .1)) (sym bodies-none ∙ e3 .1) in
+            and-true (counts && results) (hasLength (o .bodies) 0) (and-true counts results c (sym (results-same text op o same 0) ∙ e1 .1)) (sym bodies-none ∙ e3 .1) in
             rw (right ∙ m, typed, no-attributes text o ∙ sym attributes-none ∙ e2 .1, not-not y ∙ h) refl
 
         from : returnTyped text outputs known o ≡ true → typedReturn text op header values n ≡ true

@@ -19,7 +19,7 @@ use Rattle.dimrules.specs.Types.{sameType, typeAt, noType}
 use Rattle.dimrules.specs.declared.TensorType.{TensorType}
 use Rattle.dimrules.proofs.CountLaw.{holds-at}
 use Rattle.optable.specs.declared.Row.{Row}
-use Rattle.optable.specs.Table.{Op, rowOf, ops}
+use Rattle.optable.specs.Table.{OpRow, rowOf, ops}
 use Rattle.optable.specs.Takes.{takes, operandTaken, resultTaken}
 use Rattle.program.specs.declared.Parts.{Parts}
 use Rattle.places.specs.Places.{operandName, operandType, resultName, resultType, attributeName, bodyOpen, countOf, placeOf, typeIn, typeOfPart, blankType}
@@ -60,7 +60,7 @@ not-not-or false = refl
 
 -- ---- lists of types against the op's Inputs table
 
-taken-at : (text : List ℕ) (r : Op) (j : ℕ) (ts : List ℕ) → operandsTaken text r j ts ≡ true → (i : ℕ) → i < length ts → operandTakenBy r (j + i) (typeIn text (getD ts i 0)) ≡ true
+taken-at : (text : List ℕ) (r : OpRow) (j : ℕ) (ts : List ℕ) → operandsTaken text r j ts ≡ true → (i : ℕ) → i < length ts → operandTakenBy r (j + i) (typeIn text (getD ts i 0)) ≡ true
 taken-at text r j [] e i h = absurd (not-suc-le-zero h)
 taken-at text r j (t ∷ ts) e zero h =
     let z : j + 0 ≡ j = omega arith in
@@ -69,7 +69,7 @@ taken-at text r j (t ∷ ts) e (suc i) h =
     let z : j + suc i ≡ suc j + i = omega arith in
     rw z (taken-at text r (suc j) ts (both-true (operandTakenBy r j (typeIn text t)) (operandsTaken text r (suc j) ts) e .1) i (le-of-suc-le-suc h))
 
-at-taken : (text : List ℕ) (r : Op) (j : ℕ) (ts : List ℕ) → ((i : ℕ) → i < length ts → operandTakenBy r (j + i) (typeIn text (getD ts i 0)) ≡ true) → operandsTaken text r j ts ≡ true
+at-taken : (text : List ℕ) (r : OpRow) (j : ℕ) (ts : List ℕ) → ((i : ℕ) → i < length ts → operandTakenBy r (j + i) (typeIn text (getD ts i 0)) ≡ true) → operandsTaken text r j ts ≡ true
 at-taken text r j [] h = refl
 at-taken text r j (t ∷ ts) h =
     let z : j + 0 ≡ j = omega arith in
@@ -104,7 +104,7 @@ module _ (text : List ℕ) (op : Parts) (o : OpText) (same : SameParts op o) whe
         let i = valueNamed text values n (getD (o .operands) j 0) in
         let inside : ltb i n ≡ true = lt-ltb i n (before j h) in
         let value : getD values i noValue ≡ getD known (valueOfName text known (getD (o .operands) j 0)) noValue =
-            sym (k .held i (before j h)) ∙ ap (λ (m : ℕ). getD known m noValue) (value-same text values known n k (getD (o .operands) j 0)) in
+        sym (k .held i (before j h)) ∙ ap (λ (m : ℕ). getD known m noValue) (value-same text values known n k (getD (o .operands) j 0)) in
         rw (same .operands .place j (omega arith), same .operandTypes .place j (omega arith), inside, value) refl
 
     -- "a written operand type that isn't that of its definition"
@@ -141,7 +141,7 @@ module _ (text : List ℕ) (op : Parts) (o : OpText) (same : SameParts op o) whe
 
   -- ---- the op with its row of the op table
 
-  module _ (r : Op) (place : ℕ) where
+  module _ (r : OpRow) (place : ℕ) where
     abbrev row : Row
     row = rowOf place r
 
@@ -248,7 +248,7 @@ module _ (text : List ℕ) (op : Parts) (o : OpText) (same : SameParts op o) whe
                 let b = both-true (hasLength (o .bodies) wanted) (not (wrongBody text o)) (sym bodies-same ∙ e5 .1) in
                 let a = both-true (not (wrongAttribute text (r .required) (r .optional) o)) (not (wrongDense text o)) (sym fit ∙ e3 .1) in
                 let m : counts && results && hasLength (o .bodies) wanted ≡ true =
-                    and-true (counts && results) (hasLength (o .bodies) wanted) (and-true counts results (c .0) (sym (results-same 1) ∙ e2 .1)) (b .0) in
+                and-true (counts && results) (hasLength (o .bodies) wanted) (and-true counts results (c .0) (sym (results-same 1) ∙ e2 .1)) (b .0) in
                 all-six (number-right ∙ m) (sym (operands-same values known n k before) ∙ e1 .1) (a .0) (a .1)
                 (taken-right ∙ and-true (operandsTaken text r 0 (o .operandTypes)) (takes (r .result) (typeIn text (firstToken (o .resultTypes)) .element)) (c .1) (t .1)) (b .1)
 

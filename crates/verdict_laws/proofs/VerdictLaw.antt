@@ -18,7 +18,7 @@ use Rattle.grammar.specs.Symbols.{Op}
 use Rattle.optable.specs.declared.Row.{Row}
 use Rattle.optable.specs.declared.Rule.{Rule}
 use Rattle.optable.specs.declared.Rule.the-variants as rule
-use Rattle.optable.specs.Table.{Op as OpRow, ops, rowAt, rowOf as rowFor, value}
+use Rattle.optable.specs.Table.{OpRow, ops, rowAt, rowOf as rowFor, value}
 use Rattle.checks.specs.Check.{Check, brokenNumber}
 use Rattle.judge.specs.declared.Refusal.{Refusal}
 use Rattle.judge.specs.Judge.{textRefusal}
@@ -28,7 +28,7 @@ use Rattle.values.specs.Values.{valuesIn}
 use Rattle.opcheck.specs.Judged.{brokenBy, checksBy}
 use Rattle.attributes.specs.Attributes.{stands, attributesFit, neededAt}
 use Rattle.bodies.specs.Bodies.{rowNamed, bodyFits, argumentType}
-use Rattle.typing.specs.Typing.{rowOf, operationOf, bodyType, inTable, bodiesFit, typedOp}
+use Rattle.typing.specs.Typing.{rowNamedIn, operationOf, bodyType, inTable, bodiesFit, typedOp}
 use Rattle.verify.specs.Verify.{verdict}
 use Rattle.source.specs.Source.{OpText, opFrom, bodyFrom, functionOf}
 use Rattle.verifier.specs.BodyForm.{opNumber, ofBodyForm}
@@ -66,25 +66,25 @@ module _ (text : List ℕ) (read : textRefusal text .number ≡ 0) (k : ℕ) (h 
   unfolding inTable
   inside = let z = ltb-true (rowNamed text (placeOf (op text read k) 0 0)) (length ops) (known-op text read k h) in rw number at z
 
-  row-at : rowOf text (op text read k) ≡ rowAt i
-  unfolding rowOf
+  row-at : rowNamedIn text (op text read k) ≡ rowAt i
+  unfolding rowNamedIn
   row-at = ap rowAt number
 
-  pub fit : attributesFit text (op text read k) (rowOf text (op text read k)) ≡ not (wrongAttribute text (r .required) (r .optional) o-k) && not (wrongDense text o-k)
+  pub fit : attributesFit text (op text read k) (rowNamedIn text (op text read k)) ≡ not (wrongAttribute text (r .required) (r .optional) o-k) && not (wrongDense text o-k)
   fit = rw row-at (op-attributes-fit text read k h (opFrom []) i noOp inside)
 
   -- its body
   pub one-body : length (o-k .bodies) ≡ 1 → SameBody text (placeOf (op text read k) bodyOpen 0) (getD (o-k .bodies) 0 [])
   one-body one = op-body text read k h (opFrom []) one
 
-  module _ (typed : typedOp text (op text read k) (rowOf text (op text read k)) (vs text read .list) (vs text read .inputs + k) ≡ true) where
-    abbrev parts : TypedParts text (op text read k) (rowOf text (op text read k)) (vs text read .list) (vs text read .inputs + k)
-    parts = typed-parts text (op text read k) (rowOf text (op text read k)) (vs text read .list) (vs text read .inputs + k) typed
+  module _ (typed : typedOp text (op text read k) (rowNamedIn text (op text read k)) (vs text read .list) (vs text read .inputs + k) ≡ true) where
+    abbrev parts : TypedParts text (op text read k) (rowNamedIn text (op text read k)) (vs text read .list) (vs text read .inputs + k)
+    parts = typed-parts text (op text read k) (rowNamedIn text (op text read k)) (vs text read .list) (vs text read .inputs + k) typed
 
     pub named : AttributesNamed text (op text read k) (o-k .attributes)
     named = op-attributes-named text read k h i noOp inside (rw row-at at (parts .attributes)) (opFrom [])
 
-    row-is : (place : ℕ) × (rowOf text (op text read k) ≡ rowFor place r)
+    row-is : (place : ℕ) × (rowNamedIn text (op text read k) ≡ rowFor place r)
     row-is = row-same text read k h
 
     abbrev row : Row
@@ -115,7 +115,7 @@ module _ (text : List ℕ) (read : textRefusal text .number ≡ 0) (k : ℕ) (h 
           argument = λ e j l. let b = body-there e in rw (b .0) (one-body (b .1) .types j (omega arith));
         }
 
-    broken : brokenBy (rowOf text (op text read k) .rule) (operationOf text (op text read k) (rowOf text (op text read k))) ≡ brokenNumber (checksWritten text o-k (r .rule))
+    broken : brokenBy (rowNamedIn text (op text read k) .rule) (operationOf text (op text read k) (rowNamedIn text (op text read k))) ≡ brokenNumber (checksWritten text o-k (r .rule))
     unfolding brokenBy
     broken =
         rw (row-is .1)

@@ -14,7 +14,7 @@ use Rattle.laid.specs.Laid.{Laid, written}
 use Rattle.judge.specs.Judge.{refuse}
 use Rattle.judge.proofs.Theorems.{too-long}
 use Rattle.verify.specs.Verify.{verdict}
-use Rattle.streams.specs.Cut.{Cut}
+use Rattle.streams.specs.Cut.{CutOff}
 use Rattle.verdict_lines.specs.Lines.{answerLine, verdictLine, wholeRefusal}
 
 -- refusal 1 names the text's length
@@ -22,7 +22,7 @@ pub long-verdict : (text : List ℕ) → 65536 < length text → verdict text �
 unfolding verdict
 long-verdict text h = rw (too-long text h)
 
-module _ (text rest : List ℕ) (more : ℕ) (cut : Cut 65537 (length text) more) (counted : length rest ≡ more) where
+module _ (text rest : List ℕ) (more : ℕ) (cut : CutOff 65537 (length text) more) (counted : length rest ≡ more) where
   -- no bytes follow a text within the size
   pub nothing-more : length text ≤ 65536 → text ++ rest ≡ text
   nothing-more h = go rest (rest-short more (cut .full) counted)

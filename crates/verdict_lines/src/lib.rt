@@ -4,7 +4,7 @@ ghost use mathlib.Core.List.{List, _++_};
 ghost use Prim.Native.Nat.{ℕ, _≤_};
 ghost use lib.ListN.{length};
 ghost use Rattle.laid.specs.Laid.{laid, lay, written};
-ghost use Rattle.streams.specs.Cut.{Cut};
+ghost use Rattle.streams.specs.Cut.{CutOff};
 ghost use Rattle.verdict_lines.specs.Lines.{spaced, refusedLine, answerLine, verdictLine, wholeRefusal};
 use judge::Refusal;
 use laid::put_byte;
@@ -46,7 +46,7 @@ pub fn print_refused(r: Refusal, out: &mut [u8]) -> usize
 
 // The refusal of a text of which `len` bytes were kept, with refusal r, and `more` bytes follow.
 pub fn whole_refusal(len: usize, more: usize, r: Refusal) -> Refusal
-    requires { ⌜ Cut 65537 len more ⌝ }
+    requires { ⌜ CutOff 65537 len more ⌝ }
     ensures { λ x. ⌜ x ≡ wholeRefusal len more r ⌝ }
 {
     if len > Limits::TEXT {
@@ -73,7 +73,7 @@ fn print_answer(r: Refusal, out: &mut [u8]) -> usize
 // What the checking program prints, into `out` from its front: how many bytes it has. `text` is the first 65,537 bytes of the whole text, or all of it; `more` bytes
 // follow, whatever they are.
 pub fn print_verdict(text: &[u8], more: usize, out: &mut [u8]) -> usize
-    requires { ⌜ Cut 65537 (length (now text)) more × (71 ≤ length (now out)) ⌝ }
+    requires { ⌜ CutOff 65537 (length (now text)) more × (71 ≤ length (now out)) ⌝ }
     ensures { λ n. ⌜ ((rest : List ℕ) → length rest ≡ more → laid n (now (out .exit)) ≡ written (verdictLine (now (text .entry) ++ rest)) 0 (now (out .entry))) ⌝ }
 {
     let r = check(text);

@@ -9,12 +9,12 @@ use lib.ListN.{length, getD}
 use Rattle.lists.specs.Lists.{pick}
 use Rattle.scan.specs.Bytes.{among}
 use Rattle.text.specs.Lex.{tokenAt}
-use Rattle.types.specs.Numbers.{numberOf}
+use Rattle.types.specs.Numbers.{decimalNumber}
 use Rattle.shape.specs.Dims.{dimsOf}
 use Rattle.dimrules.specs.declared.TensorType.{TensorType}
 use Rattle.dense.specs.Dense.{Read, denseValue}
 use Rattle.places.specs.Places.{typeIn}
-use Rattle.optable.specs.Table.{Numbers, Number, Dense, attributeKind, choiceForm, choiceKind, noChoice}
+use Rattle.optable.specs.Table.{NumbersKind, Number, DenseKind, attributeKind, choiceForm, choiceKind, noChoice}
 use Rattle.optable.specs.Find.{findAttribute, findChoiceKind, findChoice}
 use Rattle.source.specs.Source.{AttributeText}
 
@@ -49,12 +49,12 @@ choiceNumber text a = let at = firstToken (a .choices) in findChoice text at (to
 abbrev pub valueKind : List ℕ → AttributeText → ℕ
 valueKind text a =
     pick (ltb 0 (length (a .single))) Number
-    (pick (ltb 0 (length (a .types))) Dense
-    (pick (ltb 0 (length (a .kinds))) (choiceForm (choiceWord text a)) Numbers))
+    (pick (ltb 0 (length (a .types))) DenseKind
+    (pick (ltb 0 (length (a .kinds))) (choiceForm (choiceWord text a)) NumbersKind))
 
 -- its numbers, as they are written
 abbrev pub numbersWritten : List ℕ → AttributeText → List ℤ
-numbersWritten text a = map (numberOf text) (a .single ++ a .listed)
+numbersWritten text a = map (decimalNumber text) (a .single ++ a .listed)
 
 -- the type after its `dense<..>`, and what is read of the literal by that type
 abbrev pub typeWritten : List ℕ → AttributeText → TensorType
@@ -96,8 +96,8 @@ abbrev pub foreignAttribute : List ℕ → List ℕ → List AttributeText → B
 foreignAttribute text allowed attrs = someOf (λ a. not (among allowed (attributeNumber text a))) attrs
 
 -- "or of the wrong kind": `#stablehlo<comparison_direction SIGNED>` is a choice of the other kind
-abbrev pub otherKind : List ℕ → AttributeText → Bool
-otherKind text a =
+abbrev pub unlikeKind : List ℕ → AttributeText → Bool
+unlikeKind text a =
     let kind = attributeKind (attributeNumber text a) in
     not (eqb (valueKind text a) kind) || (ltb 0 (length (a .choices)) && not (eqb (choiceKind (choiceNumber text a)) kind))
 

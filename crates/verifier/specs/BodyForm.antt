@@ -11,7 +11,7 @@ use Rattle.scope.specs.Scope.{sameAt}
 use Rattle.dimrules.specs.declared.TensorType.{TensorType}
 use Rattle.dimrules.specs.Types.{sameType}
 use Rattle.places.specs.Places.{typeIn}
-use Rattle.optable.specs.Table.{Op, ops, mayReduce, rowAt}
+use Rattle.optable.specs.Table.{OpRow, ops, mayReduce, rowAt}
 use Rattle.optable.specs.Find.{findOp}
 use Rattle.source.specs.Source.{OpText, BodyText}
 use Rattle.verifier.specs.AttributeRules.{firstToken}

@@ -12,10 +12,10 @@ use Rattle.dimrules.specs.Types.{sameType}
 use Rattle.places.specs.Places.{typeIn}
 use Rattle.values.specs.declared.Value.{Value}
 use Rattle.values.specs.Values.{noValue}
-use Rattle.optable.specs.Table.{Op, ops}
+use Rattle.optable.specs.Table.{OpRow, ops}
 use Rattle.optable.specs.Takes.{takes}
 use Rattle.source.specs.Source.{OpText, bodyFrom}
-use Rattle.verifier.specs.AttributeRules.{firstToken, pairwise, someOf, missingAttribute, doubledAttribute, foreignAttribute, otherKind, unfitDense}
+use Rattle.verifier.specs.AttributeRules.{firstToken, pairwise, someOf, missingAttribute, doubledAttribute, foreignAttribute, unlikeKind, unfitDense}
 use Rattle.verifier.specs.BodyForm.{hasLength, ofBodyForm}
 
 -- the number of the value that a name stands for
@@ -40,22 +40,22 @@ wrongAttribute text required optional op =
     missingAttribute text required (op .attributes)
     || doubledAttribute text (op .attributes)
     || foreignAttribute text (required ++ optional) (op .attributes)
-    || someOf (otherKind text) (op .attributes)
+    || someOf (unlikeKind text) (op .attributes)
 
 -- 4. "a dense value of other sizes, kind or range than its type"
 abbrev pub wrongDense : List ℕ → OpText → Bool
 wrongDense text op = someOf (unfitDense text) (op .attributes)
 
 -- 5. "an element type or rank that the op's Inputs or Outputs table in 000 doesn't take"
-abbrev pub operandTakenBy : Op → ℕ → TensorType → Bool
+abbrev pub operandTakenBy : OpRow → ℕ → TensorType → Bool
 operandTakenBy row j t =
     pick (eqb j 0) (takes (row .first) (t .element)) (takes (row .rest) (t .element) && (not (row .scalars) || eqb (t .shape .rank) 0))
 
-abbrev pub operandsTaken : List ℕ → Op → ℕ → List ℕ → Bool
+abbrev pub operandsTaken : List ℕ → OpRow → ℕ → List ℕ → Bool
 operandsTaken text row j [] = true
 operandsTaken text row j (t ∷ types) = operandTakenBy row j (typeIn text t) && operandsTaken text row (suc j) types
 
-abbrev pub notTaken : List ℕ → Op → OpText → Bool
+abbrev pub notTaken : List ℕ → OpRow → OpText → Bool
 notTaken text row op =
     not (operandsTaken text row 0 (op .operandTypes)) || not (takes (row .result) (typeIn text (firstToken (op .resultTypes)) .element))
 
@@ -68,7 +68,7 @@ abbrev pub otherReturnTypes : List ℕ → List ℕ → OpText → Bool
 otherReturnTypes text outputs op = not (pairwise (λ t u. sameType (typeIn text t) (typeIn text u)) (op .operandTypes) outputs)
 
 -- none of them holds of an op with its row of the op table, the values `known` being defined before it
-unfoldable pub opTyped : List ℕ → Op → List Value → OpText → Bool
+unfoldable pub opTyped : List ℕ → OpRow → List Value → OpText → Bool
 opTyped text row known op =
     not (wrongNumber (row .least) (row .most) 1 (pick (row .body) 1 0) op)
     && not (otherOperandType text known op)

@@ -10,7 +10,7 @@ use Rattle.lists.specs.Lists.{pick}
 use Rattle.scope.specs.declared.NameFault.{NameFault}
 use Rattle.names.specs.Names.{Checked, thenChecked, checkedFault, defined, settled, namesRead, inputNamesFault}
 use Rattle.values.specs.declared.Value.{Value}
-use Rattle.optable.specs.Table.{Op, ops}
+use Rattle.optable.specs.Table.{OpRow, ops}
 use Rattle.optable.specs.declared.Takes.the-variants.{Any}
 use Rattle.optable.specs.declared.Rule.the-variants as rule
 use Rattle.optable.specs.declared.Class.the-variants.{Constant}
@@ -25,10 +25,10 @@ use Rattle.verifier.specs.Reasons.{opTyped, returnTyped}
 use Rattle.verifier.specs.ConstraintRules.{checksWritten}
 
 -- its row of the op table: refusal 3 has answered for a name that has none
-abbrev pub noOp : Op
+abbrev pub noOp : OpRow
 noOp = record { name = []; least = 0; most = 0; required = []; optional = []; body = false; first = Any; rest = Any; scalars = false; result = Any; rule = rule.SameTypes; class = Constant; reducer = Not }
 
-abbrev pub rowWritten : List ℕ → OpText → Op
+abbrev pub rowWritten : List ℕ → OpText → OpRow
 rowWritten text op = getD ops (opNumber text op) noOp
 
 -- the names of values, the last one first

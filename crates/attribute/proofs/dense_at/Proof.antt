@@ -1,12 +1,12 @@
 -- `attribute::dense_at` meets its contract.
 -- Assumes nothing.
 use borrow.Author.Needs.{needs}
-use Rattle.attribute.specs.Attribute.{denseAt}
+use Rattle.attribute.specs.Attribute.{denseTokens}
 use Rattle.attribute.proofs.dense_at.Statement.{statement}
 use Rattle.attribute.proofs.dense_at.Tie as tie
 
 returns : tie.Need-returns
-unfolding denseAt
+unfolding denseTokens
 returns c = simp (← c .token-after2 .ensures, ← c .before .close-of .ensures, ← c .before .before .token-after .ensures)
 
 pub dense-at-spec : {M : Type 1} → statement M

@@ -3,14 +3,14 @@
 use mathlib.Core.Path.{_≡_, refl, sym, _∙_}
 use native.Mathlib.Omega.{arith}
 use borrow.Author.Needs.{needs}
-use Rattle.attribute.specs.Attribute.{noNumbers, numbersFrom}
-use Rattle.cursor.specs.Cursor.{tokenOf, afterToken}
+use Rattle.attribute.specs.Attribute.{noneRead, numbersFrom}
+use Rattle.cursor.specs.Cursor.{tokenOf, cursorAfter}
 use Rattle.attribute.proofs.ScanLaw.{numbers-more, numbers-stop, numbers-none}
 use Rattle.attribute.proofs.numbers_from.Statement.{statement}
 use Rattle.attribute.proofs.numbers_from.Tie as tie
 
 abbrev Inv-loop : tie.InvT-loop
-Inv-loop text ns₀ c₀ left₀ ns c left = numbersFrom left ns text (c .at) ≡ numbersFrom 6 noNumbers text (c₀ .at)
+Inv-loop text ns₀ c₀ left₀ ns c left = numbersFrom left ns text (c .at) ≡ numbersFrom 6 noneRead text (c₀ .at)
 
 abbrev μ-loop : tie.MeasureT-loop
 μ-loop text ns₀ c₀ left₀ ns c left = left
@@ -27,7 +27,7 @@ loop-again c =
     let mark = c .before .before .before .before .before .before .before .token in
     let goes = sym (c .before .before .before .before .before .before .goes-on .ensures) ∙ c .before .before .before .before .before .if1 .taken in
     let number = c .before .before .before .token2 in
-    let read : number .result ≡ tokenOf text (afterToken (mark .result)) = rw (← c .before .before .before .before .after .ensures) (number .ensures) in
+    let read : number .result ≡ tokenOf text (cursorAfter (mark .result)) = rw (← c .before .before .before .before .after .ensures) (number .ensures) in
     rw (c .after2 .ensures, c .before .with-number .ensures, c .before .before .pattern-at .ensures)
     (sym (numbers-more (l .left) (l .ns) text (l .c) (mark .result) (number .result) (omega arith) (mark .ensures) read goes) ∙ l .inv)
 

@@ -19,8 +19,8 @@ whole-claim n c = (_, n c .1 .1)
 returns : tie.Need-returns
 returns c =
     let r = c .answer-of .ensures in
-    let e = c .before .before .before .evaluate .ensures .2 in
-    (r ∙ ap (λ (a : Evaluated). threeNumbers (a .refusal)) e, (ap (λ (a : Evaluated). a .store) e, rw r (c .before .before .before .evaluate .ensures .3)))
+    let e = c .before .before .before .evaluate .ensures .1 .1 .0 in
+    (r ∙ ap (λ (a : Evaluated). threeNumbers (a .refusal)) e, (ap (λ (a : Evaluated). a .store) e, rw r (c .before .before .before .evaluate .ensures .1 .1 .1)))
 
 pub bench-evaluate-spec : {M : Type 1} → statement M
 bench-evaluate-spec = tie.close (tie.spec (λ c κs. search needs) (λ c κs. search needs) (λ c. search needs) returns)

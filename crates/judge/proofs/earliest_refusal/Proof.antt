@@ -8,7 +8,7 @@ use borrow.Author.Needs.{needs}
 use Rattle.grammar.specs.Symbols.{Program}
 use Rattle.syntax.specs.Readings.{readingsFrom, readingsOf}
 use Rattle.syntax.proofs.ReadingLaw.{all-read, none-left, Room, room-first, room-next}
-use Rattle.judge.specs.Tally.{atStart, Within}
+use Rattle.judge.specs.Tally.{atStart, TallyWithin}
 use Rattle.judge.specs.Judge.{earliest}
 use Rattle.judge.proofs.TallyLaw.{within-start, within-more, within-next}
 use Rattle.judge.proofs.TurnLaw.{turn-refused, turn-taken}
@@ -18,7 +18,7 @@ use Rattle.judge.proofs.earliest_refusal.Tie as tie
 abbrev Inv-loop : tie.InvT-loop
 Inv-loop text from stack₀ top₀ at₀ left₀ s₀ stack top at left s =
     (earliest text s (readingsFrom left (drop top stack) text at) ≡ earliest text atStart (readingsOf Program text from))
-    × Room left top stack × (length stack ≡ 655380) × (left ≤ length text + 1) × Within (length text + 1 - left) s
+    × Room left top stack × (length stack ≡ 655380) × (left ≤ length text + 1) × TallyWithin (length text + 1 - left) s
 
 abbrev μ-loop : tie.MeasureT-loop
 μ-loop text from stack₀ top₀ at₀ left₀ s₀ stack top at left s = left

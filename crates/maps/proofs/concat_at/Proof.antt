@@ -8,7 +8,7 @@ use Rattle.lists.specs.Lists.{All}
 use Rattle.shape.specs.Index.{at, unravel, inSix}
 use Rattle.shape.specs.Dims.{dimsOf}
 use Rattle.shape.proofs.IndexLaw.{length-unravel, at-six}
-use Rattle.maps.specs.Concatenation.{concatFrom, concatAt, shapesOf, inputsOf}
+use Rattle.maps.specs.Concatenation.{concatFrom, concatAt, shapesOf, inputsIn}
 use Rattle.maps.proofs.AttributeLaw.{dims-le}
 use Rattle.maps.proofs.ConcatLaw.{concat-front}
 use borrow.Author.Needs.{needs}
@@ -26,7 +26,7 @@ returns c =
     let p = c .before .before .before .pre in
     let u : List ℕ = unravel (dimsOf (a .to)) (a .k) in
     let shapes = shapesOf (a .shapes) (a .count) in
-    let inputs = inputsOf (now (a .x)) (a .shapes) (a .places) (a .count) in
+    let inputs = inputsIn (now (a .x)) (a .shapes) (a .places) (a .count) in
     let lu : length u ≡ length (dimsOf (a .to)) = length-unravel (dimsOf (a .to)) (a .k) in
     c .concat-element .ensures
     ∙ ap (concatAt (a .dimension) shapes inputs) (c .before .index-at .ensures)

@@ -9,7 +9,7 @@ use Rattle.lists.specs.Lists.{tab}
 use Rattle.shape.specs.Index.{at, size, elementAt}
 use Rattle.shape.specs.Dims.{dimsOf}
 use Rattle.shape.specs.declared.Shape.{Shape}
-use Rattle.maps.specs.Concatenation.{concatFrom, concatAt, noShape, shapesOf, inputsOf}
+use Rattle.maps.specs.Concatenation.{concatFrom, concatAt, noShape, shapesOf, inputsIn}
 use Rattle.maps.proofs.ConcatLaw.{concat-here, concat-next, concat-end}
 use borrow.Author.Needs.{needs}
 use Rattle.maps.proofs.concat_element.Statement.{statement}
@@ -17,7 +17,7 @@ use Rattle.maps.proofs.concat_element.Tie as tie
 
 abbrev Inv-loop : tie.InvT-loop
 Inv-loop x dimension count shapes places index t₀ j₀ t j =
-    (j ≤ count) × (concatFrom dimension index (drop j (shapesOf shapes count)) (drop j (inputsOf x shapes places count)) t ≡ concatAt dimension (shapesOf shapes count) (inputsOf x shapes places count) index)
+    (j ≤ count) × (concatFrom dimension index (drop j (shapesOf shapes count)) (drop j (inputsIn x shapes places count)) t ≡ concatAt dimension (shapesOf shapes count) (inputsIn x shapes places count) index)
 
 abbrev μ-loop : tie.MeasureT-loop
 μ-loop x dimension count shapes places index t₀ j₀ t j = count - j

@@ -8,21 +8,21 @@ use Rattle.lists.specs.Lists.{tab}
 use Rattle.lists.proofs.TabLaw.{fill-step, length-fill, fill-whole}
 use Rattle.shape.specs.Index.{size, unravel}
 use Rattle.shape.specs.Dims.{dimsOf}
-use Rattle.maps.specs.Concatenation.{concatAt, shapesOf, inputsOf}
+use Rattle.maps.specs.Concatenation.{concatAt, shapesOf, inputsIn}
 use borrow.Author.Needs.{needs}
 use Rattle.maps.proofs.concatenate.Statement.{statement}
 use Rattle.maps.proofs.concatenate.Tie as tie
 
 abbrev Inv-loop : tie.InvT-loop
 Inv-loop x dimension shapes places count to out₀ n k₀ out k =
-    (k ≤ n) × (out ≡ tab k (λ j. concatAt dimension (shapesOf shapes count) (inputsOf x shapes places count) (unravel (dimsOf to) j)) ++ drop k out₀)
+    (k ≤ n) × (out ≡ tab k (λ j. concatAt dimension (shapesOf shapes count) (inputsIn x shapes places count) (unravel (dimsOf to) j)) ++ drop k out₀)
 
 abbrev μ-loop : tie.MeasureT-loop
 μ-loop x dimension shapes places count to out₀ n k₀ out k = n - k
 
 elem : (a : tie.Start Inv-loop μ-loop) → ℕ → ℕ
 elem a j =
-    concatAt (a .args .dimension) (shapesOf (a .args .shapes) (a .args .count)) (inputsOf (now (a .args .x)) (a .args .shapes) (a .args .places) (a .args .count)) (unravel (dimsOf (a .args .to)) j)
+    concatAt (a .args .dimension) (shapesOf (a .args .shapes) (a .args .count)) (inputsIn (now (a .args .x)) (a .args .shapes) (a .args .places) (a .args .count)) (unravel (dimsOf (a .args .to)) j)
 
 long : (c : tie.At-loop Inv-loop μ-loop) → length (c .loop .out) ≡ length (now (c .before .before .before .args .out))
 unfolding elem

@@ -8,7 +8,7 @@ use Rattle.shape.specs.Index.{at, unravel, elementAt}
 use Rattle.shape.specs.Dims.{dimsOf}
 use Rattle.shape.proofs.IndexLaw.{at-six, within-unravel}
 use Rattle.shape.proofs.ElementLaw.{elementAt-front}
-use Rattle.maps.specs.Kinds.{operandIndex, coordOf, Ready}
+use Rattle.maps.specs.Kinds.{operandIndex, coordOf, MapReady}
 use borrow.Author.Needs.{needs}
 use Rattle.maps.proofs.map_element.Statement.{statement}
 use Rattle.maps.proofs.map_element.Tie as tie
@@ -20,7 +20,7 @@ operand-index-requires : tie.Need-operand-index-requires
 operand-index-requires c κs =
     let p = c .before .before .pre in
     let a = c .before .before .args in
-    (p .0 .count, p .0 .from-sized .rank, subst (λ (i : ℕ → ℕ). Ready (a .m) (dimsOf (a .from)) i) (sym (seen c)) (p .0 .ready (unravel (dimsOf (a .to)) (a .k)) (within-unravel (dimsOf (a .to)) (a .k) (p .1))))
+    (p .0 .count, p .0 .from-sized .rank, subst (λ (i : ℕ → ℕ). MapReady (a .m) (dimsOf (a .from)) i) (sym (seen c)) (p .0 .ready (unravel (dimsOf (a .to)) (a .k)) (within-unravel (dimsOf (a .to)) (a .k) (p .1))))
 
 returns : tie.Need-returns
 returns c =

@@ -1,7 +1,7 @@
 use mathlib.Core.Path.{refl}
 use Prim.Native.Nat.{_<_}
 use Rattle.lists.specs.Lists.{firstWhere}
-use Rattle.optable.specs.Names.{same, placeIn}
+use Rattle.optable.specs.Names.{same, namePlace}
 use Rattle.optable.specs.Table.{entryAt, entryOf, takesCode, ruleCode, classCode, reducerCode, bit, ops, attributes, attributeNames}
 use Rattle.optable.proofs.TableLaw.{ops-count}
 use borrow.Author.Needs.{needs}
@@ -15,7 +15,7 @@ below : tie.Need-array-copy-out-result
 below c = rw ops-count at (c .pre)
 
 returns : tie.Need-returns
-unfolding entryAt entryOf takesCode ruleCode classCode reducerCode bit ops attributes attributeNames placeIn firstWhere same
+unfolding entryAt entryOf takesCode ruleCode classCode reducerCode bit ops attributes attributeNames namePlace firstWhere same
 returns c = refl
 
 pub entry-at-spec : {M : Type 1} → statement M

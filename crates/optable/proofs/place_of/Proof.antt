@@ -6,12 +6,12 @@ use mathlib.Core.Path.{_≡_}
 use Prim.Native.Nat.{_+_, _≤_, _-_}
 use lib.ListN.{take, drop}
 use Rattle.optable.specs.Table.{names}
-use Rattle.optable.specs.Find.{placeIn}
+use Rattle.optable.specs.Find.{namePlace}
 use Rattle.optable.proofs.place_of.Statement.{statement}
 use Rattle.optable.proofs.place_of.Tie as tie
 
 abbrev Inv-loop : tie.InvT-loop
-Inv-loop bytes first count k₀ k = (k ≤ count) × (k + placeIn (drop k (take count (drop first names))) bytes ≡ placeIn (take count (drop first names)) bytes)
+Inv-loop bytes first count k₀ k = (k ≤ count) × (k + namePlace (drop k (take count (drop first names))) bytes ≡ namePlace (take count (drop first names)) bytes)
 
 abbrev μ-loop : tie.MeasureT-loop
 μ-loop bytes first count k₀ k = count - k

@@ -4,13 +4,13 @@ use borrow.Author.Needs.{needs}
 use mathlib.Core.Path.{_≡_, refl}
 use Prim.Native.Nat.{_≤_, _-_}
 use lib.ListN.{take, drop}
-use Rattle.optable.specs.Table.{nameBytes}
+use Rattle.optable.specs.Table.{tableBytes}
 use Rattle.optable.specs.Find.{same}
 use Rattle.optable.proofs.word_is.Statement.{statement}
 use Rattle.optable.proofs.word_is.Tie as tie
 
 abbrev Inv-loop : tie.InvT-loop
-Inv-loop bytes at len k₀ k = (k ≤ len) × (same (drop k (take len (drop at nameBytes))) (drop k bytes) ≡ same (take len (drop at nameBytes)) bytes)
+Inv-loop bytes at len k₀ k = (k ≤ len) × (same (drop k (take len (drop at tableBytes))) (drop k bytes) ≡ same (take len (drop at tableBytes)) bytes)
 
 abbrev μ-loop : tie.MeasureT-loop
 μ-loop bytes at len k₀ k = len - k

@@ -10,20 +10,20 @@ use Rattle.shape.specs.Index.{size, unravel}
 use Rattle.shape.specs.Dims.{dimsOf}
 use Rattle.run.specs.Tree.{fold}
 use Rattle.scalar.specs.Body.{bodyOf}
-use Rattle.reduction.specs.Rows.{rowAt}
+use Rattle.reduction.specs.Rows.{rowForIndex}
 use borrow.Author.Needs.{needs}
 use Rattle.reduction.proofs.reduce.Statement.{statement}
 use Rattle.reduction.proofs.reduce.Tie as tie
 
 abbrev Inv-loop : tie.InvT-loop
 Inv-loop b t x from dimensions count start to out₀ n k₀ out k =
-    (k ≤ n) × (out ≡ tab k (λ i. fold (bodyOf b t) start (rowAt (take count dimensions) (dimsOf from) x (unravel (dimsOf to) i))) ++ drop k out₀)
+    (k ≤ n) × (out ≡ tab k (λ i. fold (bodyOf b t) start (rowForIndex (take count dimensions) (dimsOf from) x (unravel (dimsOf to) i))) ++ drop k out₀)
 
 abbrev μ-loop : tie.MeasureT-loop
 μ-loop b t x from dimensions count start to out₀ n k₀ out k = n - k
 
 row : tie.Start Inv-loop μ-loop → ℕ → List ℕ
-row a i = rowAt (take (a .args .count) (a .args .dimensions)) (dimsOf (a .args .from)) (now (a .args .x)) (unravel (dimsOf (a .args .to)) i)
+row a i = rowForIndex (take (a .args .count) (a .args .dimensions)) (dimsOf (a .args .from)) (now (a .args .x)) (unravel (dimsOf (a .args .to)) i)
 
 elem : tie.Start Inv-loop μ-loop → ℕ → ℕ
 elem a i = fold (bodyOf (a .args .b) (a .args .t)) (a .args .start) (row a i)

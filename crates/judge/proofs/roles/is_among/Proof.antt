@@ -5,13 +5,13 @@ use Prim.Native.Nat.{_-_}
 use native.Mathlib.Omega.{arith}
 use lib.ListN.{length, drop}
 use borrow.Author.Needs.{needs}
-use Rattle.judge.specs.Roles.{among}
+use Rattle.judge.specs.Roles.{amongRoles}
 use Rattle.judge.proofs.RoleLaw.{among-here, among-next, among-past}
 use Rattle.judge.proofs.roles.is_among.Statement.{statement}
 use Rattle.judge.proofs.roles.is_among.Tie as tie
 
 abbrev Inv-loop : tie.InvT-loop
-Inv-loop roles role i₀ i = among (drop i roles) role ≡ among roles role
+Inv-loop roles role i₀ i = amongRoles (drop i roles) role ≡ amongRoles roles role
 
 abbrev μ-loop : tie.MeasureT-loop
 μ-loop roles role i₀ i = length roles - i

@@ -3,13 +3,13 @@ use borrow.Author.Tests.{eq-eqb, ne-eqb}
 use mathlib.Core.Path.{_≡_, sym, _∙_}
 use Prim.Native.Nat.{_-_}
 use lib.ListN.{length, drop}
-use Rattle.scan.specs.TypeText.{shapeFrom, shapeEnd}
+use Rattle.scan.specs.TypeText.{shapeEndFrom, shapeEnd}
 use Rattle.scan.proofs.TypeLaw.{shape-past, shape-step}
 use Rattle.scan.proofs.typetext.shape_end.Statement.{statement}
 use Rattle.scan.proofs.typetext.shape_end.Tie as tie
 
 abbrev Inv-loop : tie.InvT-loop
-Inv-loop text at end₀ size₀ i₀ end size i = shapeFrom end size i (drop i text) ≡ shapeFrom at 0 at (drop at text)
+Inv-loop text at end₀ size₀ i₀ end size i = shapeEndFrom end size i (drop i text) ≡ shapeEndFrom at 0 at (drop at text)
 
 abbrev μ-loop : tie.MeasureT-loop
 μ-loop text at end₀ size₀ i₀ end size i = length text - i

@@ -1,4 +1,4 @@
-use Rattle.types.specs.Numbers.{magnitudeOf, negativeAt, decimalOf, numberOf}
+use Rattle.types.specs.Numbers.{magnitudeOf, negativeAt, decimalOf, decimalNumber}
 use denote.Ref.{now}
 use Rattle.types.proofs.DigitLaw.{of-negative, of-big, of-small, big-number}
 use mathlib.Core.Path.{sym, _∙_}
@@ -7,15 +7,15 @@ use Rattle.types.proofs.numbers.number_in.Statement.{statement}
 use Rattle.types.proofs.numbers.number_in.Tie as tie
 
 returns : tie.Need-returns
-unfolding decimalOf numberOf
+unfolding decimalOf decimalNumber
 returns c = let text = now (c .before .before .before .args .text) in let at = c .before .before .before .args .start in let n = negativeAt text at in let m = magnitudeOf text at in sym (big-number _ n m (of-big n m (c .before .decimal-at .ensures) (c .if1 .taken)))
 
 returns-2 : tie.Need-returns-2
-unfolding decimalOf numberOf
+unfolding decimalOf decimalNumber
 returns-2 c = let text = now (c .before .before .before .before .before .args .text) in let at = c .before .before .before .before .before .args .start in let n = negativeAt text at in let m = magnitudeOf text at in c .negated .ensures ∙ rw (of-small n m (c .before .before .before .decimal-at .ensures) (c .before .before .if1 .left), ← of-negative n m (c .before .before .before .decimal-at .ensures), c .before .if2 .taken)
 
 returns-3 : tie.Need-returns-3
-unfolding decimalOf numberOf
+unfolding decimalOf decimalNumber
 returns-3 c = let text = now (c .before .before .before .before .before .args .text) in let at = c .before .before .before .before .before .args .start in let n = negativeAt text at in let m = magnitudeOf text at in c .at-least-zero .ensures ∙ rw (of-small n m (c .before .before .before .decimal-at .ensures) (c .before .before .if1 .left), ← of-negative n m (c .before .before .before .decimal-at .ensures), c .before .if2 .left)
 
 pub number-in-spec : {M : Type 1} → statement M

@@ -3,13 +3,13 @@ use denote.Ref.{now}
 use mathlib.Core.Path.{_≡_}
 use Prim.Native.Nat.{_+_, _-_, _≤_}
 use native.Mathlib.Omega.{arith}
-use Rattle.types.specs.Tensors.{stretch, countOf}
+use Rattle.types.specs.Tensors.{bytesBetween, byteCount}
 use Rattle.types.proofs.ShapeLaw.{count-past, count-one, count-other}
 use Rattle.types.proofs.tensors.count_byte.Statement.{statement}
 use Rattle.types.proofs.tensors.count_byte.Tie as tie
 
 abbrev Inv-loop : tie.InvT-loop
-Inv-loop text at end b n₀ i₀ n i = (n ≤ i) × (n + countOf b (stretch i end text) ≡ countOf b (stretch at end text))
+Inv-loop text at end b n₀ i₀ n i = (n ≤ i) × (n + byteCount b (bytesBetween i end text) ≡ byteCount b (bytesBetween at end text))
 
 abbrev μ-loop : tie.MeasureT-loop
 μ-loop text at end b n₀ i₀ n i = end - i

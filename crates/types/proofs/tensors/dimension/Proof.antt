@@ -4,13 +4,13 @@ use mathlib.Core.Path.{_≡_, _∙_}
 use Prim.Native.Nat.{_-_, _≤_}
 use native.Mathlib.Omega.{arith}
 use lib.ListN.{getD}
-use Rattle.types.specs.Tensors.{stretch}
+use Rattle.types.specs.Tensors.{bytesBetween}
 use Rattle.types.proofs.ShapeLaw.{cappedFrom, capped-at, dimension-past, dimension-here, dimension-next, dimension-digit}
 use Rattle.types.proofs.tensors.dimension.Statement.{statement}
 use Rattle.types.proofs.tensors.dimension.Tie as tie
 
 abbrev Inv-loop : tie.InvT-loop
-Inv-loop text at end k left₀ v₀ i₀ left v i = (v ≤ 4097) × (getD (cappedFrom v (stretch i end text)) left 0 ≡ getD (cappedFrom 0 (stretch at end text)) k 0)
+Inv-loop text at end k left₀ v₀ i₀ left v i = (v ≤ 4097) × (getD (cappedFrom v (bytesBetween i end text)) left 0 ≡ getD (cappedFrom 0 (bytesBetween at end text)) k 0)
 
 abbrev μ-loop : tie.MeasureT-loop
 μ-loop text at end k left₀ v₀ i₀ left v i = end - i
