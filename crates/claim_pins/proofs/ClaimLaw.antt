@@ -6,6 +6,7 @@ use mathlib.Core.List.{List, [], _∷_, map, List·Memᴰ·head, List·Memᴰ·t
 use mathlib.Core.Option.{Option, some}
 use Prim.Native.Nat.{ℕ, zero, suc, _≤_, _<_}
 use native.Mathlib.Omega.{arith}
+use lib.IntN.{pos}
 use Rattle.lists.specs.Lists.{firstWhere}
 use Rattle.run.specs.Run.{RunProgram, count, ended, resultsOf}
 use Rattle.run.specs.Tree.{Tree, leaf, node, start, element}
@@ -16,6 +17,7 @@ use Rattle.scalar.specs.declared.Unary.the-variants.{Negate}
 use Rattle.scalar.specs.declared.Body.the-variants.{Add}
 use Rattle.elementwise.specs.Elementwise.{Tensor}
 use Rattle.ops.specs.declared.Kind.the-variants.{Constant, Elementwise, Reduce}
+use Rattle.ops.specs.OpAttributes.{noAttributes, attributesBy}
 use Rattle.ops.specs.Ops.{TensorType, Node, hlo}
 use Rattle.ops.specs.Typed.{StartsAtIdentity}
 use Rattle.scan.specs.Ascii.{ascii}
@@ -46,9 +48,9 @@ ops =
     record {
       inputs = 1;
       ops =
-          record { kind = Elementwise Negate; result = three; from = three ∷ []; first = []; second = 0 ∷ []; values = []; operands = 0 ∷ [] }
-          ∷ record { kind = Constant; result = one; from = []; first = []; second = []; values = 0 ∷ []; operands = [] }
-          ∷ record { kind = Reduce Add; result = one; from = three ∷ one ∷ []; first = 0 ∷ []; second = 0 ∷ []; values = []; operands = 1 ∷ 2 ∷ [] }
+          record { kind = Elementwise Negate; result = three; from = three ∷ []; attributes = noAttributes; values = []; operands = 0 ∷ [] }
+          ∷ record { kind = Constant; result = one; from = []; attributes = noAttributes; values = 0 ∷ []; operands = [] }
+          ∷ record { kind = Reduce Add; result = one; from = three ∷ one ∷ []; attributes = attributesBy (Reduce Add) (pos 0 ∷ []) []; values = []; operands = 1 ∷ 2 ∷ [] }
           ∷ [];
       returns = 3 ∷ [];
     }

@@ -5,6 +5,7 @@ use mathlib.Core.Path.{_≡_, refl, ap}
 use mathlib.Core.Bool.{Bool, true, false}
 use mathlib.Core.List.{List, [], _∷_, _++_, map}
 use Prim.Native.Nat.{ℕ, suc}
+use lib.IntN.{pos}
 use lib.ListN.{getD, drop}
 use Rattle.lists.specs.Lists.{All}
 use Rattle.run.specs.Run.{RunProgram}
@@ -13,6 +14,7 @@ use Rattle.element.specs.declared.ElementType.the-variants.{I1, I8, I16, I32, I
 use Rattle.scalar.specs.declared.Body.{Body}
 use Rattle.scalar.specs.declared.Body.the-variants.{Add, Multiply, Maximum, Minimum, And, Or, Xor}
 use Rattle.ops.specs.declared.Kind.the-variants.{Constant, Reduce}
+use Rattle.ops.specs.OpAttributes.{noAttributes, attributesBy}
 use Rattle.ops.specs.Ops.{TensorType, Node}
 use Rattle.ops.specs.Typed.{StartsAtIdentity}
 use Rattle.start_examples.proofs.IdentityTest.{startsAtIdentity, starts-true, starts-false}
@@ -52,8 +54,8 @@ reduced s =
     record {
       inputs = 1;
       ops =
-          record { kind = Constant; result = one; from = []; first = []; second = []; values = s .slot ∷ []; operands = [] }
-          ∷ record { kind = Reduce (s .body); result = one; from = two ∷ one ∷ []; first = 0 ∷ []; second = []; values = []; operands = 0 ∷ 1 ∷ [] }
+          record { kind = Constant; result = one; from = []; attributes = noAttributes; values = s .slot ∷ []; operands = [] }
+          ∷ record { kind = Reduce (s .body); result = one; from = two ∷ one ∷ []; attributes = attributesBy (Reduce (s .body)) (pos 0 ∷ []) []; values = []; operands = 0 ∷ 1 ∷ [] }
           ∷ [];
       returns = 2 ∷ [];
     }
