@@ -7,6 +7,7 @@ use mathlib.Core.Option.{Option, some}
 use Prim.Native.Nat.{ℕ, zero, suc, _≤_, _<_}
 use lib.IntN.{pos}
 use native.Mathlib.Omega.{arith}
+use lib.IntN.{pos}
 use Rattle.lists.specs.Lists.{firstWhere}
 use Rattle.run.specs.Run.{RunProgram, count, ended, resultsOf}
 use Rattle.run.specs.Tree.{Tree, leaf, node, start, element}
