@@ -240,6 +240,27 @@ module _ (text : List ℕ) (accepted : verdict text .number ≡ 0) where
 
   -- ---- demand 3 of it
 
+  returned-within : All (λ i. i < valuesOf text .count) (programWritten text .returns)
+  unfolding valuesOf nodesOf nodesIn
+  returned-within =
+      let a = accepted-program text accepted .returned in
+      let v = values .inputs in
+      let w = values .count in
+      let c = count in
+      let n = ops-count text read in
+      let l = length-tab (opsOf (programOf text)) (nodeAt text (programOf text) (vs text read)) in
+      let z : vs text read .inputs + length (tab (opsOf (programOf text)) (nodeAt text (programOf text) (vs text read))) ≡ vs text read .count = omega arith in
+      subst (λ (q : RunProgram Node). All (λ i. i < vs text read .count) (q .returns)) program-same (all-map (λ i b. rw z at b) (nodesOf text .returns) a)
+
+  returned-at : (store : List ℕ) (is : List ℕ) → All (λ i. i < valuesOf text .count) is → map (valueIn (valuesOf text) store) is ≡ map (λ i. getD (tensorsFrom (valuesWritten text) store) i []) is
+  returned-at store [] a = refl
+  returned-at store (i ∷ is) a =
+      let z : getD (tensorsFrom (valuesWritten text) store) i [] ≡ valueIn (valuesOf text) store i = ap (λ (l : List Tensor). getD l i []) (tensors-stand store) ∙ getD-tab (valuesOf text .count) (valueIn (valuesOf text) store) i [] (a .0) in
+      rw (z, returned-at store is (a .1)) refl
+
+  returned-same : (store : List ℕ) → map (valueIn (valuesOf text) store) (nodesOf text .returns) ≡ map (λ i. getD (tensorsFrom (valuesWritten text) store) i []) (programWritten text .returns)
+  returned-same store = ap (λ (q : RunProgram Node). map (valueIn (valuesOf text) store) (q .returns)) program-same ∙ returned-at store (programWritten text .returns) returned-within
+
   claim-same : (inputs : List ℕ) (number : ℕ) (store : List ℕ) → OrderFreeAnswer text inputs number store → FreeOfOrder text inputs number store
   unfolding OrderFreeAnswer FreeOfOrder valuesOf nodesOf nodesIn
   claim-same inputs number store claim v starts order ordered trees allowed =
@@ -252,26 +273,21 @@ module _ (text : List ℕ) (accepted : verdict text .number ≡ 0) where
         returned = λ z. ap (λ (q : RunProgram Node). resultsOf (q .returns) (freeRun hlo (nodesOf text) (tensorsOf text inputs) order trees 0)) (sym program-same) ∙ c .returned z ∙ ap some (returned-same store);
         zero-divisor = c .zero-divisor;
       })
-    where
-      returned-within : All (λ i. i < valuesOf text .count) (programWritten text .returns)
-      returned-within =
-          let a = accepted-program text accepted .returned in
-          let v = values .inputs in
-          let w = values .count in
-          let c = count in
-          let n = ops-count text read in
-          let l = length-tab (opsOf (programOf text)) (nodeAt text (programOf text) (vs text read)) in
-          let z : vs text read .inputs + length (tab (opsOf (programOf text)) (nodeAt text (programOf text) (vs text read))) ≡ vs text read .count = omega arith in
-          subst (λ (q : RunProgram Node). All (λ i. i < vs text read .count) (q .returns)) program-same (all-map (λ i b. rw z at b) (nodesOf text .returns) a)
 
-      returned-at : (store : List ℕ) (is : List ℕ) → All (λ i. i < valuesOf text .count) is → map (valueIn (valuesOf text) store) is ≡ map (λ i. getD (tensorsFrom (valuesWritten text) store) i []) is
-      returned-at store [] a = refl
-      returned-at store (i ∷ is) a =
-          let z : getD (tensorsFrom (valuesWritten text) store) i [] ≡ valueIn (valuesOf text) store i = ap (λ (l : List Tensor). getD l i []) (tensors-stand store) ∙ getD-tab (valuesOf text .count) (valueIn (valuesOf text) store) i [] (a .0) in
-          rw (z, returned-at store is (a .1)) refl
-
-      returned-same : (store : List ℕ) → map (valueIn (valuesOf text) store) (nodesOf text .returns) ≡ map (λ i. getD (tensorsFrom (valuesWritten text) store) i []) (programWritten text .returns)
-      returned-same store = ap (λ (q : RunProgram Node). map (valueIn (valuesOf text) store) (q .returns)) program-same ∙ returned-at store (programWritten text .returns) returned-within
+  -- and back: the claim in the words of 01 says no less
+  claim-back : (inputs : List ℕ) (number : ℕ) (store : List ℕ) → FreeOfOrder text inputs number store → OrderFreeAnswer text inputs number store
+  unfolding OrderFreeAnswer FreeOfOrder valuesOf nodesOf nodesIn
+  claim-back inputs number store claim v starts order ordered trees allowed =
+      let c = claim (ap (λ (r : Refusal). r .number) (sym (verdict-same text)) ∙ v) (subst StartsAtIdentity program-same starts) order (subst (λ (q : RunProgram Node). OrderOf hlo q order) program-same ordered) trees
+          (subst (λ (q : RunProgram Node). TreesAllowed hlo q trees) program-same allowed) in
+      let run : freeRun hlo (programWritten text) (tensorsFrom (inputsWritten text) inputs) order trees 0 ≡ freeRun hlo (nodesOf text) (tensorsOf text inputs) order trees 0 =
+          ap (λ (q : RunProgram Node). freeRun hlo q (tensorsFrom (inputsWritten text) inputs) order trees 0) (sym program-same) ∙ ap (λ (x : List Tensor). freeRun hlo (nodesOf text) x order trees 0) (tensors-given inputs) in
+      subst (λ (e : RunEnd Tensor ℕ). Claimed text number store e) run
+      (record {
+        values = λ z. c .values z ∙ ap (λ (l : List Tensor). ended (map some l)) (tensors-stand store);
+        returned = λ z. ap (λ (q : RunProgram Node). resultsOf (q .returns) (freeRun hlo (programWritten text) (tensorsFrom (inputsWritten text) inputs) order trees 0)) program-same ∙ c .returned z ∙ ap some (sym (returned-same store));
+        zero-divisor = c .zero-divisor;
+      })
 
 -- the bench, for every text, input slice and store
 pub answer-same : (text inputs old : List ℕ) → evaluated text inputs old ≡ answerOf text inputs old
@@ -286,3 +302,8 @@ answer-same text inputs old = go (eqb (verdict text .number) 0) refl
 pub free-of-order : (text inputs : List ℕ) (number : ℕ) (store : List ℕ) → OrderFreeAnswer text inputs number store → FreeOfOrder text inputs number store
 unfolding FreeOfOrder
 free-of-order text inputs number store claim v = claim-same text (ap (λ (r : Refusal). r .number) (verdict-same text) ∙ v) inputs number store claim v
+
+-- and back, so that it says no less
+pub order-free-again : (text inputs : List ℕ) (number : ℕ) (store : List ℕ) → FreeOfOrder text inputs number store → OrderFreeAnswer text inputs number store
+unfolding OrderFreeAnswer
+order-free-again text inputs number store claim v = claim-back text v inputs number store claim v
