@@ -29,7 +29,7 @@ module _ (from to : Shape) (x out : List ℕ) (f : Fit from x) (g : Fit to out) 
   pub stretches : Stretches from to x out
   stretches = record { from-sized = sized from (f .0) (f .1); to-sized = sized to (g .0) (g .1); operand = f .2; result = g .2 }
 
-  pub reduced-stretches : (count : ℕ) → Few count → rows.Stretches from to count x out
+  pub reduced-stretches : (count : ℕ) → Few count → rows.ReduceStretches from to count x out
   reduced-stretches count h =
       record { from-sized = sized from (f .0) (f .1); to-sized = sized to (g .0) (g .1); few = few count h; operand = f .2; result = g .2 }
 
