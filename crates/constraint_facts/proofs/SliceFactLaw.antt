@@ -12,7 +12,7 @@ use Rattle.dimrules.specs.Types.{typeAt, sameType}
 use Rattle.dimrules.specs.declared.TensorType.{TensorType}
 use Rattle.rules.proofs.FactLaw.{same-type}
 use Rattle.checks.specs.Check.{Term, is, Equal, Less, AtMost, Test, fact, checkHolds, brokenNumber}
-use Rattle.checks.specs.Formula.{shape, rank, _!_, _⊕_, _⊖_, _⊗_, lessOne, ceil, ceilZ, int, entries, _and_, _[≤]_, sameElements}
+use Rattle.checks.specs.Formula.{shape, rank, _!_, _⊕_, _⊖_, _⊗_, lessOne, ceil, ceilZ, int, entries, _and_, _[≤]_, sameElements, whole, sameTypes}
 use Rattle.checks.proofs.CheckLaw.{each-all, all-each}
 use Rattle.checks.proofs.MeaningLaw.{and-true-both, both-and-true}
 use Rattle.checks.proofs.ReadingLaw.{at-inside, shape-at, int-list-true, true-int-list, lists-true, true-lists, shape-row-true, true-shape-row}
@@ -21,7 +21,7 @@ use Rattle.checks.proofs.TypeLaw.{elements-true, true-elements, shape-long, sha
 use Rattle.op_checks.specs.OpChecks.{sliceChecks, padChecks, dynamicSliceChecks}
 use Rattle.constraint_facts.specs.OpFacts.{_at_, dimOf, SliceFacts, PadFacts, DynamicSliceFacts}
 use Rattle.constraint_facts.proofs.CeilLaw.{ceil-true, true-ceil}
-use Rattle.constraint_facts.proofs.WordLaw.{type-test, below-same, two-true, true-two, three-true, true-three}
+use Rattle.constraint_facts.proofs.WordLaw.{type-test, below-same, two-true, true-two, three-true, true-three, types-true, true-types}
 
 -- ---- a list within a shape
 
@@ -155,7 +155,7 @@ module _ (x v : TensorType) (low high interior : List ℤ) (r : TensorType) wher
 
 module _ (x : TensorType) (starts : List TensorType) (sizes : List ℤ) (r : TensorType) where
   abbrev startTest : ℕ → Test
-  startTest j = fact (sameType (typeAt starts 0) (typeAt starts j))
+  startTest j = whole (sameTypes (typeAt starts 0) (typeAt starts j))
 
   pub dynamic-slice-facts : brokenNumber (dynamicSliceChecks x starts sizes r) ≡ 0 → DynamicSliceFacts x starts sizes r
   unfolding dynamicSliceChecks
@@ -167,7 +167,7 @@ module _ (x : TensorType) (starts : List TensorType) (sizes : List ℤ) (r : Ten
       record {
         c1 = elements-true x r (h .0);
         c2 = n;
-        c3 = λ j k. same-type (typeAt starts 0) (typeAt starts j) (all-each (length starts) startTest (h .1 .1 .0) j k);
+        c3 = λ j k. types-true (typeAt starts 0) (typeAt starts j) (all-each (length starts) startTest (h .1 .1 .0) j k);
         c4 = λ d k. (int-list-true AtMost (pos 0) sizes (c .0) d (below-same d (sym (n .1)) k), within-true x sizes (n .1) (c .1) d k);
         c5 = (sym (shape-long r) ∙ w .0, λ d k. sym (shape-is r d k) ∙ w .1 d (below-same d (sym (shape-long r)) k));
       }
@@ -180,7 +180,7 @@ module _ (x : TensorType) (starts : List TensorType) (sizes : List ℤ) (r : Ten
         (
           true-two (length starts) (length sizes) (rank x) (f .c2),
           (
-            each-all (length starts) startTest (λ j k. type-test (typeAt starts 0) (typeAt starts j) (f .c3 j k)),
+            each-all (length starts) startTest (λ j k. true-types (typeAt starts 0) (typeAt starts j) (f .c3 j k)),
             (
               both-and-true (int (pos 0) [≤] entries sizes) (entries sizes [≤] entries (shape x))
                   (true-int-list AtMost (pos 0) sizes (λ d i. f .c4 d (below-same d (f .c2 .1) i) .0)) (true-within x sizes (f .c2 .1) (λ d k. f .c4 d k .1)),

@@ -24,7 +24,7 @@ use Rattle.checks.specs.Meaning.{Compares}
 use Rattle.checks.proofs.CheckLaw.{and-true, holds-once, everywhere-all}
 use Rattle.checks.proofs.MeaningLaw.{passes-true, true-passes, compared-true, true-compared, and-true-both, both-and-true}
 use Rattle.checks.proofs.ReadingLaw.{at-past, shape-at, nats-true, true-nats, int-list-true, true-int-list, list-int-true, true-list-int}
-use Rattle.checks.proofs.TypeLaw.{true-elements, shape-long, shapes-same}
+use Rattle.checks.proofs.TypeLaw.{true-elements, shape-long, shapes-same, types-same}
 use Rattle.constraint_facts.specs.OpFacts.{IsIndex, AreIndexes, IsDim}
 
 -- ---- shapes and types
@@ -53,10 +53,10 @@ unfolding sameType
 type-test x y f = and-true (sameElement x y) (sameShape x y) (element-test x y (f .element)) (shape-test x y (f .shape))
 
 pub types-true : (x y : TensorType) → checkHolds (sameTypes x y) ≡ true → AlikeTypes x y
-types-true x y e = same-type x y (sym (holds-once (fact (sameType x y))) ∙ e)
+types-true x y e = same-type x y (sym (types-same x y) ∙ e)
 
 pub true-types : (x y : TensorType) → AlikeTypes x y → checkHolds (sameTypes x y) ≡ true
-true-types x y f = holds-once (fact (sameType x y)) ∙ type-test x y f
+true-types x y f = types-same x y ∙ type-test x y f
 
 -- rank(x) = 0 or shape(x) = shape(y)
 module _ (x y : TensorType) where

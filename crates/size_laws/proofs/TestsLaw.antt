@@ -3,7 +3,7 @@
 use mathlib.Core.Path.{_≡_, refl, sym, ap, subst, _∙_}
 use mathlib.Core.Bool.{Bool, true, false, not, _&&_}
 use mathlib.Core.List.{List, [], _∷_}
-use Prim.Native.Nat.{ℕ, zero, suc, _+_, _-_, _≤_}
+use Prim.Native.Nat.{ℕ, zero, suc, _+_, _-_, _≤_, _^_}
 use native.Mathlib.Omega.{arith}
 use lib.Dec.{eqb, ltb, leb}
 use lib.IntN.{ℤ, pos, negsuc}
@@ -17,13 +17,12 @@ use Rattle.scan.specs.TypeText.{shapeEnd}
 use Rattle.scan.specs.TensorText.{typeClose}
 use Rattle.text.specs.declared.Token.{Token}
 use Rattle.shape.specs.Index.{volume}
-use Rattle.element.specs.Types.{slotOf}
+use Rattle.shape.specs.Whole.{patternOf}
 use Rattle.element.specs.declared.ElementType.{ElementType}
-use Rattle.element.specs.declared.ElementType.the-variants.{I64}
 use Rattle.types.specs.declared.tensors.TypeRead.{TypeRead}
 use Rattle.types.specs.declared.numbers.Number.{Number}
 use Rattle.types.specs.Tensors.{elementNamed, bytesBetween, dimensionsFrom, byteCount, allFit, typeSizePassed, typed, foreign, typeAfter, typeOf}
-use Rattle.types.specs.Numbers.{decimalNumber, inType, numberIn, fitting, unfit}
+use Rattle.types.specs.Numbers.{decimalNumber, isAttributeNumber, patternIn, fitting, unfit}
 use Rattle.grammar.specs.Symbols.{OpName, ListNumber}
 use Rattle.grammar.proofs.TableTest.{true-T, T-true}
 use Rattle.syntax.specs.Readings.{Reading}
@@ -95,19 +94,25 @@ fits-is : (b : Bool) (n : ℕ) → pick {A = Number} b (fitting n) unfit .fits �
 fits-is true n = refl
 fits-is false n = refl
 
-number-fits : (z : ℤ) → numberIn I64 z .fits ≡ inType I64 z
-unfolding numberIn
-number-fits z = fits-is (inType I64 z) (slotOf z)
+number-fits : (z : ℤ) → patternIn z .fits ≡ isAttributeNumber z
+unfolding patternIn
+number-fits z = fits-is (isAttributeNumber z) (patternOf z)
 
-in-range : (z : ℤ) → inType I64 z ≡ true → InSigned64 z
-unfolding inType
-in-range (pos n) e = (leZ-yes tt, leZ-yes (true-T _ e))
-in-range (negsuc n) e = (leZ-yes (true-T _ e), leZ-yes tt)
+at-most : (n : ℕ) → ltb n (2 ^ 63) ≡ true → leb n (2 ^ 63 - 1) ≡ true
+at-most n e = let z = ltb-true n (2 ^ 63) e in le-leb n (2 ^ 63 - 1) (omega arith)
 
-range-in : (z : ℤ) → InSigned64 z → inType I64 z ≡ true
-unfolding inType
-range-in (pos n) r = T-true _ (r .1 .le)
-range-in (negsuc n) r = T-true _ (r .0 .le)
+less : (n : ℕ) → leb n (2 ^ 63 - 1) ≡ true → ltb n (2 ^ 63) ≡ true
+less n e = let z = leb-true n (2 ^ 63 - 1) e in lt-ltb n (2 ^ 63) (omega arith)
+
+in-range : (z : ℤ) → isAttributeNumber z ≡ true → InSigned64 z
+unfolding isAttributeNumber
+in-range (pos n) e = (leZ-yes tt, leZ-yes (true-T _ (at-most n e)))
+in-range (negsuc n) e = (leZ-yes (true-T _ (at-most n e)), leZ-yes tt)
+
+range-in : (z : ℤ) → InSigned64 z → isAttributeNumber z ≡ true
+unfolding isAttributeNumber
+range-in (pos n) r = less n (T-true _ (r .1 .le))
+range-in (negsuc n) r = less n (T-true _ (r .0 .le))
 
 -- ---- the eight tests
 
@@ -219,8 +224,8 @@ module _ (text : List ℕ) where
       unfolding largeNumber
       test-range e =
           let z = decimalNumber text (x .token .start) in
-          let b = and-both (amongRoles numberRoles (x .role)) (not (numberIn I64 z .fits)) e in
-          range (b .0) (λ r. not-both (numberIn I64 z .fits) (b .1) (number-fits z ∙ range-in z r))
+          let b = and-both (amongRoles numberRoles (x .role)) (not (patternIn z .fits)) e in
+          range (b .0) (λ r. not-both (patternIn z .fits) (b .1) (number-fits z ∙ range-in z r))
 
       test-characters : longName (x .token) ≡ true → PassedAt text earlier x 8
       unfolding longName
@@ -259,6 +264,6 @@ module _ (text : List ℕ) where
           (lt-ltb 6 (itemNumber (tallyOf text earlier)) (let q = list-number r in omega arith))
       test-holds (range r n) =
           let z = decimalNumber text (x .token .start) in
-          and-make (amongRoles numberRoles (x .role)) (not (numberIn I64 z .fits)) r (not-make (numberIn I64 z .fits) (λ e. n (in-range z (sym (number-fits z) ∙ e))))
+          and-make (amongRoles numberRoles (x .role)) (not (patternIn z .fits)) r (not-make (patternIn z .fits) (λ e. n (in-range z (sym (number-fits z) ∙ e))))
       test-holds (characters r h) =
           and-make (eqb (x .token .kind) 3) (ltb 32 (x .token .end - x .token .start)) (eq-eqb (x .token .kind) 3 r) (lt-ltb 32 (x .token .end - x .token .start) h)
