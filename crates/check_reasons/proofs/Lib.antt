@@ -1,0 +1,3 @@
+pub mod FailingLaw
+pub mod ReasonLaw
+pub mod Examples
