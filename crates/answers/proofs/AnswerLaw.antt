@@ -279,9 +279,9 @@ module _ (text : List ℕ) (accepted : verdict text .number ≡ 0) where
   unfolding OrderFreeAnswer FreeOfOrder valuesOf nodesOf nodesIn
   claim-back inputs number store claim v starts order ordered trees allowed =
       let c = claim (ap (λ (r : Refusal). r .number) (sym (verdict-same text)) ∙ v) (subst StartsAtIdentity program-same starts) order (subst (λ (q : RunProgram Node). OrderOf hlo q order) program-same ordered) trees
-          (subst (λ (q : RunProgram Node). TreesAllowed hlo q trees) program-same allowed) in
+      (subst (λ (q : RunProgram Node). TreesAllowed hlo q trees) program-same allowed) in
       let run : freeRun hlo (programWritten text) (tensorsFrom (inputsWritten text) inputs) order trees 0 ≡ freeRun hlo (nodesOf text) (tensorsOf text inputs) order trees 0 =
-          ap (λ (q : RunProgram Node). freeRun hlo q (tensorsFrom (inputsWritten text) inputs) order trees 0) (sym program-same) ∙ ap (λ (x : List Tensor). freeRun hlo (nodesOf text) x order trees 0) (tensors-given inputs) in
+      ap (λ (q : RunProgram Node). freeRun hlo q (tensorsFrom (inputsWritten text) inputs) order trees 0) (sym program-same) ∙ ap (λ (x : List Tensor). freeRun hlo (nodesOf text) x order trees 0) (tensors-given inputs) in
       subst (λ (e : RunEnd Tensor ℕ). Claimed text number store e) run
       (record {
         values = λ z. c .values z ∙ ap (λ (l : List Tensor). ended (map some l)) (tensors-stand store);
