@@ -43,14 +43,17 @@ readingPins =
     pin "func.func @m() {\"stablehlo.iota\"() {true" 3 36 0 ∷
     pin "func.func @m() {\"stablehlo.iota\"() {false" 3 36 0 ∷
     pin "func.func @m() {\"stablehlo.iota\"() {i64" 3 36 0 ∷
+    pin "func.func @m() {\"stablehlo.iota\"() {tuple" 3 36 0 ∷
     pin "func.func @m() {\"stablehlo.compare\"() {compare_type = #stablehlo<array" 3 65 0 ∷
     pin "func.func @m() {\"stablehlo.compare\"() {compare_type = #stablehlo<dense" 3 65 0 ∷
     pin "func.func @m() {\"stablehlo.compare\"() {compare_type = #stablehlo<true" 3 65 0 ∷
     pin "func.func @m() {\"stablehlo.compare\"() {compare_type = #stablehlo<i64" 3 65 0 ∷
+    pin "func.func @m() {\"stablehlo.compare\"() {compare_type = #stablehlo<token" 3 65 0 ∷
     pin "func.func @m() {\"stablehlo.compare\"() {compare_type = #stablehlo<comparison_type array" 3 81 0 ∷
     pin "func.func @m() {\"stablehlo.compare\"() {compare_type = #stablehlo<comparison_type dense" 3 81 0 ∷
     pin "func.func @m() {\"stablehlo.compare\"() {compare_type = #stablehlo<comparison_type true" 3 81 0 ∷
     pin "func.func @m() {\"stablehlo.compare\"() {compare_type = #stablehlo<comparison_type i64" 3 81 0 ∷
+    pin "func.func @m() {\"stablehlo.compare\"() {compare_type = #stablehlo<comparison_type tuple" 3 81 0 ∷
     -- token and tuple as the type of an output, operand, result, argument
     pin "func.func @m() -> token" 3 18 0 ∷
     pin "func.func @m() -> tuple" 3 18 0 ∷
