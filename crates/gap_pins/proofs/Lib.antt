@@ -1,0 +1,2 @@
+pub mod RefusedLaw
+pub mod TreesLaw
