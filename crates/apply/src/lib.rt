@@ -1,5 +1,7 @@
 // One op on its operands' elements: the function of its class fills the lent stretch. Three classes are done by their own functions: a constant is
 // read from the text, concatenate reads the whole store, and a quotient may meet a zero divisor.
+#![tactic(auto)]
+
 ghost use Rattle.std.specs.Prelude.{◌≡◌, eqb, length, get_or};
 ghost use Rattle.shape.specs.Dims.{dims_of};
 ghost use Rattle.run.specs.Run.{gives};
@@ -14,7 +16,7 @@ use shape::Shape;
 
 // An op ready to be done: its class; the element types of its result, of operand 0 and of operand 1; the shapes of operand 0, of operand 2
 // and of its result; its attribute lists, of which the first has `count` numbers, the others one for each dimension of operand 0.
-#[derive(Drop)]
+#[derive(Clone, Copy)]
 pub struct Task {
     pub kind: Kind,
     pub element: ElementType,

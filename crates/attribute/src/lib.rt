@@ -1,4 +1,6 @@
 // The value of an attribute, by the place of the attribute's name in the text.
+#![tactic(auto)]
+
 ghost use Rattle.std.specs.Prelude.{◌≡◌, length};
 ghost use Rattle.scan.specs.Ascii.{ascii};
 ghost use Rattle.text.specs.Names.{word_is};
@@ -12,21 +14,21 @@ use text::names::is_word;
 use types::numbers::pattern_in;
 
 // The numbers of a list, as signed 64-bit patterns.
-#[derive(Drop)]
+#[derive(Clone, Copy)]
 pub struct Numbers {
     pub count: usize,
     pub list: [usize; Limits::LIST],
 }
 
 // The rows of a choice's two words in the table of ops.
-#[derive(Drop)]
+#[derive(Clone, Copy)]
 pub struct Chosen {
     pub kind: usize,
     pub choice: usize,
 }
 
 // Where the literal of a constant and its type start.
-#[derive(Drop)]
+#[derive(Clone, Copy)]
 pub struct Constant {
     pub literal: usize,
     pub ty: usize,

@@ -1,4 +1,6 @@
 // The attributes of an op against its row of the op table, and their values.
+#![tactic(auto)]
+
 ghost use Rattle.std.specs.Prelude.{◌≡◌, ◌<◌};
 ghost use Rattle.dimrules.specs.Count.{first_failing};
 ghost use Rattle.attributes.specs.Attributes.{attributes_of, attribute_of, stands_at, stands as «stands-in», choice_fits, dense_fits, kind_fits, attribute_fits, needed_at, attributes_fit, name_of, numbers_by, attribute_numbers, choice_of, dense_type};

@@ -1,4 +1,6 @@
 // The bench's functions for C and Rust to link.
+#![tactic(auto)]
+
 ghost use Rattle.std.specs.Prelude.{◌≡◌};
 ghost use Rattle.judge.specs.Judge.{text_refusal};
 ghost use Rattle.verifier.specs.Verdict.{verdict_of};
@@ -12,7 +14,7 @@ use verify::check;
 
 // An answer has three numbers; the refusal is 0 where there is none, and numbers that 01 leaves unnamed are 0.
 #[repr(C)]
-#[derive(Drop)]
+#[derive(Clone, Copy)]
 pub struct Answer {
     pub refusal: u64,
     pub a: u64,

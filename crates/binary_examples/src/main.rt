@@ -1,5 +1,7 @@
 // Runs the proved ops on two operands, element by element, on the examples of 01 and of 000, as examples/binary_ops.mlir has them, and writes
 // their results.
+#![tactic(auto)]
+
 mod binaries;
 
 fn main() {

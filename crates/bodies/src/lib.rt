@@ -1,4 +1,6 @@
 // The form of a reduction's body.
+#![tactic(auto)]
+
 ghost use Rattle.std.specs.Prelude.{◌≡◌, ◌<◌};
 ghost use Rattle.bodies.specs.Bodies.{inner_op, has_count, body_counted, op_counted, row_named, is_reducer, operand_is, on_both, returns_it, as_first, one_type, formed, body_fits, argument_type, body_row};
 

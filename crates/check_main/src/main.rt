@@ -1,4 +1,6 @@
 // Checks a text on standard input: prints `accepted`, or `refused` and the three numbers of refusal 1 to 8.
+#![tactic(auto)]
+
 ghost use Rattle.std.specs.Prelude.{◌≡◌, ◌≤◌, length};
 
 use limits::Limits;

@@ -1,4 +1,6 @@
 // constant: "Produces an `output` tensor from a constant `value`" (000). The lent stretch is filled with the given elements.
+#![tactic(auto)]
+
 ghost use Rattle.std.specs.Prelude.{◌≡◌, length};
 
 // As many elements as the result has: C1, type(value) = type(output). What the op gives: proofs/ConstantLaw.

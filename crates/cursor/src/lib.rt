@@ -1,11 +1,13 @@
 // A cursor by value: the place in a text from which reading goes on.
+#![tactic(auto)]
+
 ghost use Rattle.std.specs.Prelude.{◌≡◌};
 ghost use Rattle.cursor.specs.Cursor.{token_of, cursor_after, past_token};
 
 use text::{Token, token_at};
 
 // Reading goes on at byte at.
-#[derive(Drop)]
+#[derive(Clone, Copy)]
 pub struct Cursor {
     pub at: usize,
 }

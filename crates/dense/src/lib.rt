@@ -1,4 +1,6 @@
 // Dense values: "one literal for every element, or lists nested one level per dimension with exactly the sizes of the shape" (01, "The text").
+#![tactic(auto)]
+
 ghost use Rattle.std.specs.Prelude.{◌≡◌, ◌-◌, ◌≤◌, length, eqb};
 ghost use Rattle.lists.specs.Lists.{tab};
 ghost use Rattle.scan.specs.Ascii.{ascii};
@@ -17,7 +19,7 @@ use text::{Token, token_at};
 use types::numbers::{Number, number_in};
 
 // What reading answers: whether the text is as it should be, the place after what was read, and the place of the next slot to write.
-#[derive(Drop)]
+#[derive(Clone, Copy)]
 pub struct Reading {
     pub ok: bool,
     pub next: usize,

@@ -1,4 +1,6 @@
 // What 000's constraints ask of types, dimensions and attribute lists.
+#![tactic(auto)]
+
 ghost use Rattle.std.specs.Prelude.{◌≡◌, true, false, not, ◌&&◌, ◌||◌, ◌+◌, ◌-◌, ◌*◌, ◌≤◌, ◌<◌, take, eqb};
 ghost use Rattle.shape.specs.Index.{at};
 ghost use Rattle.shape.specs.Dims.{Sized};
@@ -12,21 +14,21 @@ use element::ElementType;
 use limits::Limits;
 use shape::Shape;
 
-#[derive(Drop)]
+#[derive(Clone, Copy)]
 pub struct TensorType {
     pub element: ElementType,
     pub shape: Shape,
 }
 
 // An attribute's numbers: the first count of the list, each as its 64 bits.
-#[derive(Drop)]
+#[derive(Clone, Copy)]
 pub struct Numbers {
     pub count: usize,
     pub list: [usize; Limits::LIST],
 }
 
 // What a constraint asks of each dimension.
-#[derive(Drop)]
+#[derive(Clone, Copy)]
 pub enum DimTest {
     Same,
     SameExcept,
@@ -44,7 +46,7 @@ pub enum DimTest {
 }
 
 // What a constraint asks of a type and each operand's.
-#[derive(Drop)]
+#[derive(Clone, Copy)]
 pub enum TypeTest {
     SameElement,
     SameType,
@@ -52,7 +54,7 @@ pub enum TypeTest {
 }
 
 // What the tests of dimensions read: a number, three attribute lists, and the shapes of operand and result.
-#[derive(Drop)]
+#[derive(Clone, Copy)]
 pub struct Sides {
     pub k: usize,
     pub a: Numbers,
@@ -135,7 +137,7 @@ fn ceiling_is(s: usize, l: usize, stride: usize, m: usize) -> bool
 }
 
 // A signed number as a difference of two, one of them 0.
-#[derive(Drop)]
+#[derive(Clone, Copy)]
 struct Parts {
     up: usize,
     down: usize,

@@ -1,4 +1,6 @@
 // Signed quotient and remainder at each width, and on the slots of every element type.
+#![tactic(auto)]
+
 ghost use Rattle.std.specs.Prelude.{◌≡◌, true, pos};
 ghost use Rattle.std.specs.Int.Signed.{rem_z};
 ghost use Rattle.std.specs.Int.{w8, w16, w32, w64};
@@ -9,14 +11,14 @@ ghost use Rattle.division.specs.Division.{quotient_of, result_of, divided_number
 use element::ElementType;
 
 // divide and remainder of 000.
-#[derive(Drop)]
+#[derive(Clone, Copy)]
 pub enum Division {
     Divide,
     Remainder,
 }
 
 // A quotient or a remainder; none for a zero divisor (01's numbers: `numbersOf`).
-#[derive(Drop)]
+#[derive(Clone, Copy)]
 pub enum Divided {
     Value(u64),
     ByZero,

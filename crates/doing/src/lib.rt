@@ -1,4 +1,6 @@
 // One op on operands that stand in a slice of slots: its stretch is filled, or left as zeros where a divisor is zero.
+#![tactic(auto)]
+
 ghost use Rattle.std.specs.Prelude.{◌≡◌, ◌<◌, length, replicate};
 ghost use Rattle.lists.specs.Lists.{tab};
 ghost use Rattle.shape.specs.Index.{at};
@@ -18,7 +20,7 @@ use ops::Kind;
 use shape::Shape;
 
 // How an op is done: read from the text, divided up to a zero divisor, joined out of all slots, or by a task.
-#[derive(Drop)]
+#[derive(Clone, Copy)]
 pub enum Class {
     Read,
     Divided(Division),

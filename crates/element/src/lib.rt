@@ -1,11 +1,13 @@
 // Element types and their slots.
+#![tactic(auto)]
+
 ghost use Rattle.std.specs.Prelude.{◌≡◌, true, false, pos, neg_ℤ, nat_abs};
 ghost use Rattle.lists.specs.Lists.{pick};
 ghost use Rattle.std.specs.Int.Signed.{lt_z};
 ghost use Rattle.element.specs.Types.{width_of, signed_of, bool_of, mask_of, lowest_of, highest_of, all_of, read, slot_of, slot_for, value_of, wrap_to, is_value};
 
 // 01, "Element types".
-#[derive(Drop)]
+#[derive(Clone, Copy)]
 pub enum ElementType {
     I1,
     I8,

@@ -1,5 +1,7 @@
 // Runs the proved ops that work element by element on the examples of 01 and of 000, as examples/element_ops.mlir has them, and writes their
 // results; those on two operands are in binary_examples. A constant is its literal: reading it is the crate dense's work.
+#![tactic(auto)]
+
 mod choices;
 mod unaries;
 

@@ -1,4 +1,6 @@
 // Whole tensors element by element: each function fills the stretch that it is lent.
+#![tactic(auto)]
+
 ghost use Rattle.std.specs.Prelude.{◌≡◌, eqb, ◌<◌, length};
 ghost use Rattle.lists.specs.Lists.{tab, pick};
 ghost use Rattle.element.specs.Types.{SlotHolds};
@@ -10,7 +12,7 @@ use element::ElementType;
 use scalar::{Binary, Direction, Unary};
 
 // What an op answers: its stretch is filled, or the op and its first element whose divisor is zero (01's numbers: `numbersOf`).
-#[derive(Drop)]
+#[derive(Clone, Copy)]
 pub enum Step {
     Filled,
     Zero(usize, usize),

@@ -1,4 +1,6 @@
 // Evaluating a text over the store (01, "The store"): refusals 0 to 12, and what the store then holds.
+#![tactic(auto)]
+
 ghost use Rattle.std.specs.Prelude.{◌≡◌, ◌≤◌, length};
 ghost use Rattle.program.specs.Program.{program_of};
 ghost use Rattle.values.specs.Values.{values_of};

@@ -1,5 +1,7 @@
 // Evaluates a text without inputs on standard input over a store of 8,192 slots: prints one line per result, or `refused` and the three numbers
 // (01, "Table of examples").
+#![tactic(auto)]
+
 ghost use Rattle.std.specs.Prelude.{◌≡◌, ◌≤◌, length};
 
 use limits::Limits;

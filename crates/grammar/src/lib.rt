@@ -1,4 +1,6 @@
 // The grammar as tables, and the machine that runs it: one token is one step, and what is expected stands in an array.
+#![tactic(auto)]
+
 pub mod symbols;
 mod tables;
 
@@ -64,7 +66,7 @@ fn push(stack: &mut [u8], top: usize, p: u8) -> usize
 }
 
 // One step: whether the token fits, its role (0 where it does not fit), and where the stack then starts (its end where it does not fit).
-#[derive(Drop)]
+#[derive(Clone, Copy)]
 pub struct Step {
     pub fits: bool,
     pub role: u8,

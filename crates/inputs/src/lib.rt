@@ -1,4 +1,6 @@
 // The input slice against the program's inputs.
+#![tactic(auto)]
+
 ghost use Rattle.std.specs.Prelude.{◌≡◌, ◌≤◌, ◌<◌, length};
 ghost use Rattle.offsets.specs.Offsets.{ValuesRead, offsets_of};
 ghost use Rattle.inputs.specs.Inputs.{input_slots, input_of, slot_fits, first_foreign};

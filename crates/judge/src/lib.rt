@@ -1,4 +1,6 @@
 // Refusals 1 to 4 of a text (01, "The twelve refusals").
+#![tactic(auto)]
+
 mod roles;
 mod sizes;
 mod tally;
@@ -24,7 +26,7 @@ use text::Token;
 use types::tensors::type_at;
 
 // An answer: refusal, A, B; 0, 0, 0 where nothing is refused.
-#[derive(Drop)]
+#[derive(Clone, Copy)]
 pub struct Refusal {
     pub number: usize,
     pub a: usize,

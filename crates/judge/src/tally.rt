@@ -9,7 +9,7 @@ use text::Token;
 use types::tensors::type_at;
 
 // Whether the token before is a comma, so that a list goes on; the items of the list so far; the elements and the ops so far that sizes 3 and 4 count; the bodies that are open.
-#[derive(Drop)]
+#[derive(Clone, Copy)]
 pub struct Tally {
     pub more: bool,
     pub items: usize,

@@ -1,4 +1,6 @@
 // The class of an op by its row of the op table, and where a constant's dense value begins.
+#![tactic(auto)]
+
 ghost use Rattle.std.specs.Prelude.{◌≡◌};
 ghost use Rattle.ops.specs.declared.Kind.TheVariants.{Compare, Reduce};
 ghost use Rattle.optable.specs.Table.{value, comparison_direction, direction_at};

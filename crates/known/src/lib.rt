@@ -1,4 +1,6 @@
 // The names of one op against the values before it, and of the inputs: refusals 5 and 6.
+#![tactic(auto)]
+
 ghost use Rattle.std.specs.Prelude.{◌≡◌, ◌-◌, ◌≤◌, length, drop};
 ghost use Rattle.known.specs.Known.{known_names, names_fault, inputs_fault};
 

@@ -1,4 +1,6 @@
 // Memory written from a place on, one element after the other, as far as there is room: slots by the reader, bytes by the printer.
+#![tactic(auto)]
+
 ghost use Rattle.std.specs.Prelude.{◌≡◌};
 ghost use Rattle.laid.specs.Laid.{laid, put};
 

@@ -1,4 +1,6 @@
 // 01, "Sizes", and what is counted from them. Size 7 has no number of its own: it is the range of i64 (`ElementType`).
+#![tactic(auto)]
+
 #[derive(Drop)]
 pub struct Limits {}
 

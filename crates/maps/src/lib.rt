@@ -1,4 +1,6 @@
 // The ops that move elements: each fills exactly the stretch of its result (01, "Shape by shape").
+#![tactic(auto)]
+
 ghost use Rattle.std.specs.Prelude.{◌≡◌, map, ◌^◌, ◌≤◌, ◌<◌, length, take, pos};
 ghost use Rattle.element.specs.Types.{value_of, wrap_to};
 ghost use Rattle.shape.specs.Index.{at, size, unravel, in_six};
@@ -15,7 +17,7 @@ use limits::Limits;
 use shape::Shape;
 
 // The op whose formula maps the indices.
-#[derive(Drop)]
+#[derive(Clone, Copy)]
 enum Kind {
     Transpose,
     Slice,
@@ -26,7 +28,7 @@ enum Kind {
 
 // An op with its attribute lists: a is permutation, start_indices, dimensions, broadcast_dimensions or edge_padding_low; b is strides or
 // interior_padding; count is the length of a permutation or of dimensions.
-#[derive(Drop)]
+#[derive(Clone, Copy)]
 struct Map {
     kind: Kind,
     count: usize,

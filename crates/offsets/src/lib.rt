@@ -1,4 +1,6 @@
 // Where each value stands in the store.
+#![tactic(auto)]
+
 ghost use Rattle.std.specs.Prelude.{◌≡◌, ◌<◌};
 ghost use Rattle.offsets.specs.Offsets.{ValuesRead, size_at, offsets_of, needed_of};
 

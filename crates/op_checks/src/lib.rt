@@ -1,2 +1,4 @@
 // 000's constraints, op by op, as lists of checks. Nothing is computed here.
+#![tactic(auto)]
+
 pub fn nothing() {}

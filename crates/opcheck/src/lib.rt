@@ -1,4 +1,6 @@
 // An op judged by its row of the op table.
+#![tactic(auto)]
+
 ghost use Rattle.std.specs.Prelude.{◌≡◌, ◌≤◌, ◌<◌};
 ghost use Rattle.dimrules.specs.Count.{first_failing};
 ghost use Rattle.opcheck.specs.Judged.{taken_at, taken_by_tables, broken_by, ReadSizes};
@@ -9,7 +11,7 @@ use optable::{Row, Rule};
 
 // What is read of an op: the written types of its operands and of its result; its attributes a, b, c in the order of its row, where a number alone is the
 // first of its list, and compare_type's choice, Choices::NONE where it is absent; a constant's type; the types of a body's two arguments.
-#[derive(Drop)]
+#[derive(Clone, Copy)]
 pub struct Operation {
     pub arity: usize,
     pub types: [TensorType; Limits::OPERANDS],

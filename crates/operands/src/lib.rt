@@ -1,4 +1,6 @@
 // An op's operands against the values before it.
+#![tactic(auto)]
+
 ghost use Rattle.std.specs.Prelude.{◌≡◌, ◌<◌, ◌≤◌};
 ghost use Rattle.dimrules.specs.Count.{first_failing};
 ghost use Rattle.operands.specs.Operands.{value_named, arity_of, operand_typed, operands_typed};

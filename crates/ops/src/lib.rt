@@ -1,9 +1,11 @@
 // The ops of paper 01 by class. What each gives is defined in specs/Ops.antt; nothing is computed here.
+#![tactic(auto)]
+
 use division::Division;
 use scalar::{Binary, Body, Direction, Unary};
 
 // Ops that take each element of the result from an index of one operand.
-#[derive(Drop)]
+#[derive(Clone, Copy)]
 pub enum Move {
     Reshape,
     BroadcastInDim,
@@ -12,7 +14,7 @@ pub enum Move {
     Reverse,
 }
 
-#[derive(Drop)]
+#[derive(Clone, Copy)]
 pub enum Kind {
     Constant,
     Iota,

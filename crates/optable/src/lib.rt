@@ -1,4 +1,6 @@
 // The op table (01, "The text": "The op table has one row per op: its name, operand count, attributes and body"), attribute names and choices.
+#![tactic(auto)]
+
 ghost use Rattle.std.specs.Prelude.{◌≡◌, true, false, not, ◌||◌, ◌+◌, ◌≤◌, ◌<◌, min, length, get_or, take, drop, eqb};
 ghost use Rattle.optable.specs.Names.{same, name_place};
 ghost use Rattle.optable.specs.Table.{ops, choices, names, table_bytes, word_at, no_row, row_at, takes_of, rule_of, class_of, reducer_of, entry_at, attribute_kind, choice_form, said_at, kind_said, direction_said, choice_kind, direction_at, may_reduce};
@@ -11,7 +13,7 @@ use ops::Move;
 use scalar::{Binary, Body, Direction, Unary};
 
 // The element types that a table of 000 takes.
-#[derive(Drop)]
+#[derive(Clone, Copy)]
 pub enum Takes {
     Any,
     Integer,
@@ -20,7 +22,7 @@ pub enum Takes {
 }
 
 // Which of 000's lists of constraints an op has.
-#[derive(Drop)]
+#[derive(Clone, Copy)]
 pub enum Rule {
     SameTypes,
     Abs,
@@ -42,7 +44,7 @@ pub enum Rule {
 }
 
 // What an op computes, its class for evaluation; compare's direction and reduce's body stand in the text.
-#[derive(Drop)]
+#[derive(Clone, Copy)]
 pub enum Class {
     Constant,
     Iota,
@@ -61,14 +63,14 @@ pub enum Class {
 }
 
 // Whether an op may be the op of a reduction's body, and the operation of such a body.
-#[derive(Drop)]
+#[derive(Clone, Copy)]
 pub enum Reducer {
     Not,
     By(Body),
 }
 
 // What a choice says: a direction of compare, or a type of comparison.
-#[derive(Drop)]
+#[derive(Clone, Copy)]
 pub enum Choice {
     Compares(Direction),
     Signed,
@@ -76,7 +78,7 @@ pub enum Choice {
 }
 
 // A row of the op table.
-#[derive(Drop)]
+#[derive(Clone, Copy)]
 pub struct Row {
     // Where its quoted name starts among the bytes of the names, and its length.
     pub at: usize,
@@ -105,7 +107,7 @@ pub struct Row {
 }
 
 // Where a name starts among the bytes of the names, and its length.
-#[derive(Drop)]
+#[derive(Clone, Copy)]
 pub struct Word {
     pub at: usize,
     pub len: usize,
@@ -279,7 +281,7 @@ const REDUCERS: [Reducer; 8] = [
 ];
 
 // A row as it stands in the table: the fields of Row in their order, as numbers; 0 and 1 for false and true.
-#[derive(Drop)]
+#[derive(Clone, Copy)]
 struct Entry(
     usize,
     usize,

@@ -1,4 +1,6 @@
 // Refusals 5 to 8 of one op, and of the first op that is refused.
+#![tactic(auto)]
+
 ghost use Rattle.std.specs.Prelude.{◌≡◌, ◌+◌, ◌<◌, ◌≤◌};
 ghost use Rattle.opwise.specs.Opwise.{by_name, by_op, typing_of, op_refusal, ops_from, Lent};
 

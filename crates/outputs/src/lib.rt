@@ -1,4 +1,6 @@
 // The return against the values before it and the header: refusal 7.
+#![tactic(auto)]
+
 ghost use Rattle.std.specs.Prelude.{◌≡◌, ◌<◌, ◌≤◌};
 ghost use Rattle.dimrules.specs.Count.{first_failing};
 ghost use Rattle.operands.specs.Operands.{arity_of};

@@ -1,4 +1,6 @@
 // Ops that take a part of a tensor, or put parts together.
+#![tactic(auto)]
+
 use element::ElementType;
 use shape::Shape;
 

@@ -1,4 +1,6 @@
 // What stands at the places of a header, an op or a body.
+#![tactic(auto)]
+
 ghost use Rattle.std.specs.Prelude.{◌≡◌, ◌<◌};
 ghost use Rattle.places.specs.Places.{count_of, place_of, blank_type, type_in, type_of_part};
 

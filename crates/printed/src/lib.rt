@@ -1,4 +1,6 @@
 // Results as the evaluating program prints them, for example `dense<[1725]> : tensor<1xui16>`.
+#![tactic(auto)]
+
 ghost use Rattle.std.specs.Prelude.{◌≡◌, [], ◌+◌, ◌-◌, ◌<◌, ◌≤◌, length, drop, eqb, ◌||◌};
 ghost use Rattle.lists.specs.Lists.{pick};
 ghost use Rattle.scan.specs.Ascii.{ascii};
@@ -13,7 +15,7 @@ use laid::put_byte;
 use shape::Shape;
 
 // The place after what was printed, and the slot after those printed.
-#[derive(Drop)]
+#[derive(Clone, Copy)]
 pub struct Printing {
     pub place: usize,
     pub slot: usize,

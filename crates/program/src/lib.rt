@@ -1,4 +1,6 @@
 // The program of a text, as places in it.
+#![tactic(auto)]
+
 ghost use Rattle.std.specs.Prelude.{◌≡◌, false, ◌<◌, ◌≤◌, eqb, length};
 ghost use Rattle.lists.specs.Lists.{pick};
 ghost use Rattle.syntax.specs.Readings.{readings};
@@ -14,7 +16,7 @@ use syntax::{Stack, read_token};
 const PLACES: usize = 11 * Limits::OPERANDS;
 
 // Part k has count[k] tokens, 9 standing for more than eight; the first eight start at the bytes at[8k] to at[8k + 7].
-#[derive(Drop)]
+#[derive(Clone, Copy)]
 pub struct Parts {
     pub count: [usize; 11],
     pub at: [usize; PLACES],
@@ -154,7 +156,7 @@ pub fn body_at(text: &[u8], at: usize) -> Parts
 }
 
 // The parts of the header; how many ops there are, the return among them, 258 standing for more than 257; where each begins.
-#[derive(Drop)]
+#[derive(Clone, Copy)]
 pub struct Program {
     pub header: Parts,
     pub count: usize,

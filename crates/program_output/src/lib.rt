@@ -1,4 +1,6 @@
 // What the evaluating program prints: the lines of the results, or `refused` and the three numbers (01, "Table of examples").
+#![tactic(auto)]
+
 ghost use Rattle.std.specs.Prelude.{◌≡◌, List, ◌++◌, ℕ, ◌≤◌, length};
 ghost use Rattle.laid.specs.Laid.{laid, written};
 ghost use Rattle.evaluation.specs.Evaluated.{answer};

@@ -1,4 +1,6 @@
 // Quotients and remainders. A slot of a negative number is its 64-bit pattern.
+#![tactic(auto)]
+
 use division::Division;
 use element::ElementType;
 

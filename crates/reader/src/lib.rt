@@ -1,11 +1,13 @@
 // A thin reader: the text's slice and a position in it, over functions on slice and number.
+#![tactic(auto)]
+
 ghost use Rattle.std.specs.Prelude.{◌≡◌};
 ghost use Rattle.text.specs.Lex.{token_at};
 
 use text::{Token, token_at};
 
 // Reading goes on at byte at of the text.
-#[derive(Drop)]
+#[derive(Clone, Copy)]
 pub struct Reader<'a> {
     pub text: &'a [u8],
     pub at: usize,

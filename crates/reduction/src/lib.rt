@@ -1,4 +1,6 @@
 // reduce: each element of the result is the fold of its row (01, "Reductions").
+#![tactic(auto)]
+
 ghost use Rattle.std.specs.Prelude.{◌≡◌, ◌≤◌, ◌<◌, length, take};
 ghost use Rattle.lists.specs.Lists.{pick, tab};
 ghost use Rattle.run.specs.Tree.{fold};

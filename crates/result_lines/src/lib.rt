@@ -1,4 +1,6 @@
 // The lines of an accepted text's results, one after the other in a lent buffer (01, "prints one line per result").
+#![tactic(auto)]
+
 ghost use Rattle.std.specs.Prelude.{◌≡◌, ◌+◌, ◌<◌, ◌≤◌, length};
 ghost use Rattle.laid.specs.Laid.{laid, written};
 ghost use Rattle.program.specs.Program.{program_of};

@@ -1,4 +1,6 @@
 // The lines that the evaluating program prints: one for each result, a dense value with its type.
+#![tactic(auto)]
+
 ghost use Rattle.std.specs.Prelude.{◌≡◌, ◌+◌, ◌<◌, ◌≤◌, length};
 ghost use Rattle.laid.specs.Laid.{laid, written};
 ghost use Rattle.offsets.specs.Offsets.{ValuesRead, size_at, offset_at};

@@ -1,4 +1,6 @@
 // 000's constraints, class by class of the op table: the number of the first that is broken, or 0 (01, refusal 8).
+#![tactic(auto)]
+
 ghost use Rattle.std.specs.Prelude.{◌≡◌, true, ◌&&◌, ◌-◌, ◌≤◌, eqb};
 ghost use Rattle.shape.specs.Dims.{Sized};
 ghost use Rattle.dimrules.specs.Types.{AllSized, same_element, type_at};

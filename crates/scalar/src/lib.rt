@@ -1,4 +1,6 @@
 // The operations on single values (01, "Element by element").
+#![tactic(auto)]
+
 ghost use Rattle.std.specs.Prelude.{◌≡◌, ◌*◌, ◌%◌, ◌^◌};
 ghost use Rattle.scalar.specs.Ops.{add_of, subtract_of, multiply_of, negate_of, iota_of, convert_of, abs_of, sign_of, lt_of, maximum_of, minimum_of, holds, compare_of, not_of, count_leading_zeros_of, popcnt_of, shift_left_of, shift_right_arithmetic_of, shift_right_logical_of, clamp_of, select_of, unary_of, binary_of};
 ghost use Rattle.scalar.specs.Body.{body_of};
@@ -6,7 +8,7 @@ ghost use Rattle.scalar.specs.Body.{body_of};
 use element::ElementType;
 
 // Operations on one value.
-#[derive(Drop)]
+#[derive(Clone, Copy)]
 pub enum Unary {
     Negate,
     Abs,
@@ -17,7 +19,7 @@ pub enum Unary {
 }
 
 // Operations on two values, but division and comparison.
-#[derive(Drop)]
+#[derive(Clone, Copy)]
 pub enum Binary {
     Add,
     Subtract,
@@ -33,7 +35,7 @@ pub enum Binary {
 }
 
 // The comparison_direction of compare.
-#[derive(Drop)]
+#[derive(Clone, Copy)]
 pub enum Direction {
     Eq,
     Ne,
@@ -44,7 +46,7 @@ pub enum Direction {
 }
 
 // The op of a reduction's body.
-#[derive(Drop)]
+#[derive(Clone, Copy)]
 pub enum Body {
     Add,
     Multiply,

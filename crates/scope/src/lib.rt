@@ -1,4 +1,6 @@
 // Value names in scope: refusals 5 and 6.
+#![tactic(auto)]
+
 ghost use Rattle.std.specs.Prelude.{◌≡◌, ◌+◌, ◌<◌, ◌≤◌, [], ◌∷◌, length, drop};
 ghost use Rattle.grammar.specs.Symbols.{Op};
 ghost use Rattle.syntax.specs.Readings.{readings_of};
@@ -15,14 +17,14 @@ use text::token_at;
 const BODY: usize = 131072;
 
 // A refusal and the byte of its name; both 0 where no name is refused.
-#[derive(Drop)]
+#[derive(Clone, Copy)]
 pub struct NameFault {
     pub refusal: u8,
     pub a: usize,
 }
 
 // A refusal and the byte of its name; refusal 0: the entries stand in the array from top to its end, the last one first.
-#[derive(Drop)]
+#[derive(Clone, Copy)]
 struct Names {
     refusal: u8,
     a: usize,

@@ -1,4 +1,6 @@
 // Shapes by value, and the canonical order of a tensor's elements (01, "Element types"; "Rank at most 6": shapes as arrays by value).
+#![tactic(auto)]
+
 ghost use Rattle.std.specs.Prelude.{◌≡◌, ◌*◌, ◌≤◌, ◌<◌, max, min, take};
 ghost use Rattle.shape.specs.Index.{size, volume, unravel, ravel, Within, is_within, element_at, in_six};
 ghost use Rattle.shape.specs.Place.{place_in};
@@ -7,7 +9,7 @@ ghost use Rattle.shape.specs.Dims.{dims_of, Sized, Fills};
 use limits::Limits;
 
 // The first rank numbers of dims are the dimensions.
-#[derive(Drop)]
+#[derive(Clone, Copy)]
 pub struct Shape {
     pub rank: usize,
     pub dims: [usize; Limits::RANK],

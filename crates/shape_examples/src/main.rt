@@ -1,4 +1,6 @@
 // Runs the proved ops that work shape by shape on the examples of 01 and of 000, as examples/shape_ops.mlir has them, and writes their results.
+#![tactic(auto)]
+
 mod folded;
 mod moved;
 

@@ -1,4 +1,6 @@
 // A line of output: an op's mnemonic, then its result's slots in decimal.
+#![tactic(auto)]
+
 pub fn show(name: &[u8], slots: &[u64]) {
     io::write_all(1, name);
     let mut i = 0;

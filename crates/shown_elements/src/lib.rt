@@ -1,4 +1,6 @@
 // Each function runs an op, element by element, on a stretch that it is lent, and shows what the op wrote there.
+#![tactic(auto)]
+
 ghost use Rattle.std.specs.Prelude.{◌≡◌, false, length};
 ghost use Rattle.lists.specs.Lists.{tab};
 ghost use Rattle.elementwise.specs.Elementwise.{unary_at, binary_at, compare_at, convert_at, select_at, clamp_at, left_by};

@@ -1,4 +1,6 @@
 // Each function runs an op, shape by shape, on a stretch that it is lent, and shows what the op wrote there.
+#![tactic(auto)]
+
 ghost use Rattle.std.specs.Prelude.{◌≡◌, map, length, take};
 ghost use Rattle.shape.specs.Index.{size};
 ghost use Rattle.shape.specs.Dims.{dims_of};

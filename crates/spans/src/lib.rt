@@ -1,4 +1,6 @@
 // Where the operands of an op stand in the store.
+#![tactic(auto)]
+
 ghost use Rattle.std.specs.Prelude.{◌≡◌, ◌<◌};
 ghost use Rattle.offsets.specs.Offsets.{offsets_of};
 ghost use Rattle.spans.specs.Spans.{place_at, places_of};

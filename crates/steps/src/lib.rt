@@ -1,4 +1,6 @@
 // Op k of an accepted text on the values before it.
+#![tactic(auto)]
+
 ghost use Rattle.std.specs.Prelude.{◌≡◌, ◌+◌, ◌<◌, length};
 ghost use Rattle.values.specs.Values.{ops_of};
 ghost use Rattle.offsets.specs.Offsets.{size_at};

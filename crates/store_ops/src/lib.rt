@@ -1,4 +1,6 @@
 // All ops of an accepted text over the store: each fills its own stretch, up to the first zero divisor (01, "The store").
+#![tactic(auto)]
+
 ghost use Rattle.std.specs.Prelude.{◌≡◌, ◌+◌, ◌≤◌, ◌<◌, length, take};
 ghost use Rattle.values.specs.Values.{ops_of};
 ghost use Rattle.offsets.specs.Offsets.{offset_at, needed_of};

@@ -1,18 +1,20 @@
 // A text from standard input, and bytes to standard output. What a read puts into memory and what a write passes on stand in no contract: those of libc and io
 // speak of counts only. A read or a write that fails gives one line on standard error, and a failed read is no end of the text.
+#![tactic(auto)]
+
 ghost use Rattle.std.specs.Prelude.{◌≡◌, ◌≤◌, length};
 ghost use Rattle.streams.specs.Cut.{CutOff};
 ghost use Rattle.streams.specs.Pieces.{piece_of};
 
 // Whether a read failed, and how many bytes came before.
-#[derive(Drop)]
+#[derive(Clone, Copy)]
 struct Piece {
     failed: bool,
     count: usize,
 }
 
 // Whether a read failed; else how many bytes of the text are kept, and how many follow.
-#[derive(Drop)]
+#[derive(Clone, Copy)]
 pub struct Input {
     pub failed: bool,
     pub len: usize,

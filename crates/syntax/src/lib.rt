@@ -1,4 +1,6 @@
 // A text's tokens with their kinds and their roles in the grammar.
+#![tactic(auto)]
+
 ghost use Rattle.std.specs.Prelude.{◌≡◌, ◌<◌, ◌≤◌, length};
 ghost use Rattle.scan.specs.Ascii.{ascii};
 ghost use Rattle.text.specs.Names.{word_is};
@@ -153,7 +155,7 @@ pub fn kind_of(text: &[u8], t: Token) -> u8
 }
 
 // A token, whether the grammar takes it, its role, and where what is then expected starts in the array.
-#[derive(Drop)]
+#[derive(Clone, Copy)]
 pub struct Turn {
     pub token: Token,
     pub fits: bool,

@@ -1,4 +1,6 @@
 // Tokens by longest match, and names.
+#![tactic(auto)]
+
 ghost use Rattle.std.specs.Prelude.{◌≡◌, length, drop, ◌<◌, true};
 ghost use Rattle.scan.specs.Ascii.{ascii};
 ghost use Rattle.scan.specs.Bytes.{starts_with};
@@ -14,7 +16,7 @@ use scan::typetext::{opens_tensor, type_close, word_end};
 // A token: what it is, its first byte, and the place after its last.
 // Kinds: 0 the end of the text, 1 word, 2 number with its sign, 3 name with its sigil, 4 `func.func`, 5 `#stablehlo`, 6 `"word.word"`,
 // 7 tensor type, 8 `->`, 9 a byte that is no mark; the kind of a mark is the mark's own byte.
-#[derive(Drop)]
+#[derive(Clone, Copy)]
 pub struct Token {
     pub kind: u8,
     pub start: usize,

@@ -5,7 +5,7 @@ ghost use Rattle.text.specs.Names.{word_is, same_bytes, same_name};
 use scan::bytes::starts;
 
 // A name with its sigil, or a word: its first byte's place and its length.
-#[derive(Drop)]
+#[derive(Clone, Copy)]
 pub struct Name {
     pub at: usize,
     pub len: usize,

@@ -7,7 +7,7 @@ use scan::bytes::{byte_at, is_digit};
 use scan::quantized::sign_end;
 
 // A decimal number of any length: its sign, whether the rest is 2^64 or more, and if it is not, the rest.
-#[derive(Drop)]
+#[derive(Clone, Copy)]
 pub struct Decimal {
     pub negative: bool,
     pub big: bool,
@@ -15,7 +15,7 @@ pub struct Decimal {
 }
 
 // A number of a type as its slot, or an attribute number as its pattern, or that it does not fit.
-#[derive(Drop)]
+#[derive(Clone, Copy)]
 pub struct Number {
     pub fits: bool,
     pub bits: u64,

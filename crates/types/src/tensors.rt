@@ -17,14 +17,14 @@ use shape::{Shape, volume_of};
 use text::names::is_word;
 
 // The element type that a name stands for, if it is one of 01's.
-#[derive(Drop)]
+#[derive(Clone, Copy)]
 pub struct Named {
     pub known: bool,
     pub element: ElementType,
 }
 
 // A tensor type: whether it is in 01; if so its element type, its shape, of which `dims` has the first six, and the first of sizes 1 and 2 that it passes.
-#[derive(Drop)]
+#[derive(Clone, Copy)]
 pub struct TypeRead {
     pub known: bool,
     pub element: ElementType,

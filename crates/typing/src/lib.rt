@@ -1,4 +1,6 @@
 // One op against the values before it and its row of the op table: refusals 7 and 8.
+#![tactic(auto)]
+
 ghost use Rattle.std.specs.Prelude.{◌≡◌, ◌<◌, ◌≤◌, eqb};
 ghost use Rattle.lists.specs.Lists.{tab, pick};
 ghost use Rattle.operands.specs.Operands.{arity_of};
@@ -15,7 +17,7 @@ use program::Parts;
 use values::Values;
 
 // A refusal of kind 7 or 8 and its B; refusal 0: none.
-#[derive(Drop)]
+#[derive(Clone, Copy)]
 pub struct Judged {
     pub refusal: usize,
     pub b: usize,

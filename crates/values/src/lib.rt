@@ -1,4 +1,6 @@
 // The values of a program: its inputs, then each op's result.
+#![tactic(auto)]
+
 ghost use Rattle.std.specs.Prelude.{◌≡◌, ◌+◌, ◌<◌, ltb};
 ghost use Rattle.lists.specs.Lists.{pick};
 ghost use Rattle.values.specs.Values.{no_value, input_value, result_value, inputs_of, ops_of, value_at, values_in, values_of};
@@ -9,14 +11,14 @@ use places::{Part, blank_type, count_of, place_of, type_of};
 use program::{Parts, Program, op_at, program_of};
 
 // The first byte of a value's name, and its type.
-#[derive(Drop)]
+#[derive(Clone, Copy)]
 pub struct Value {
     pub name: usize,
     pub ty: TensorType,
 }
 
 // How many values are inputs, how many there are, and each of them.
-#[derive(Drop)]
+#[derive(Clone, Copy)]
 pub struct Values {
     pub inputs: usize,
     pub count: usize,

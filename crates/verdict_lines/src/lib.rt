@@ -1,4 +1,6 @@
 // The line of an answer: `accepted`, or `refused` and the three numbers.
+#![tactic(auto)]
+
 ghost use Rattle.std.specs.Prelude.{◌≡◌, List, ◌++◌, ℕ, ◌≤◌, length};
 ghost use Rattle.laid.specs.Laid.{laid, lay, written};
 ghost use Rattle.streams.specs.Cut.{CutOff};

@@ -1,4 +1,6 @@
 // Refusals 0 to 8 of a text.
+#![tactic(auto)]
+
 ghost use Rattle.std.specs.Prelude.{◌≡◌, ◌≤◌};
 ghost use Rattle.judge.specs.Judge.{text_refusal};
 ghost use Rattle.program.specs.Program.{program_of};
