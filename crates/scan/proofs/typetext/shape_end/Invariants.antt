@@ -1,0 +1,14 @@
+use borrow.Author.Rules.{rules}
+use borrow.Author.Tests.{eq-eqb, ne_eqb}
+use mathlib.Core.Path.{◌≡◌, sym, ◌∙◌}
+use Prim.Native.Nat.{◌-◌}
+use lib.ListN.{length, drop}
+use Rattle.scan.specs.TypeText.{shape_end_from, shape_end}
+use Rattle.scan.proofs.TypeLaw.{shape-past, shape-step}
+use Rattle.scan.proofs.typetext.shape_end.Given as goal
+
+abbrev pub invariant-loop-i : goal.invariant-loop-i
+invariant-loop-i l = shape_end_from l.end l.size l.i (drop l.i l.text) ≡ shape_end_from l.at 0 l.at (drop l.at l.text)
+
+abbrev pub decreases-loop-i : goal.decreases-loop-i
+decreases-loop-i l = length l.text - l.i

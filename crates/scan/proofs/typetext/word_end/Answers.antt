@@ -1,0 +1,11 @@
+use Rattle.scan.specs.TypeText.{word_end}
+use borrow.Author.Rules.{rules}
+use Rattle.scan.proofs.typetext.word_end.Goals as goal
+
+pub returns-then-is_letter : goal.returns-then-is_letter
+unfolding word_end
+returns-then-is_letter c = simp (← c.byte_at.ensures, ← c.is_letter.ensures, c.if-is_letter.true, ← c.run_end.ensures)
+
+pub returns : goal.returns
+unfolding word_end
+returns c = simp (← c.byte_at.ensures, ← c.is_letter.ensures, c.if-is_letter.false)
