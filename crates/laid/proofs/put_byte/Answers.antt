@@ -1,0 +1,12 @@
+use borrow.Author.Tests.{lt-ltb, le-ltb}
+use Rattle.laid.specs.Laid.{put}
+use borrow.Author.Rules.{rules}
+use Rattle.laid.proofs.put_byte.Goals as goal
+
+pub returns-then-place-out : goal.returns-then-place-out
+unfolding put
+returns-then-place-out c = simp (lt-ltb _ _ c.if-place-out.true)
+
+pub returns : goal.returns
+unfolding put
+returns c = simp (le-ltb _ _ c.if-place-out.false)
