@@ -1,0 +1,7 @@
+use Rattle.text.specs.Lex.{token_at}
+use borrow.Author.Rules.{rules}
+use Rattle.text.proofs.token_at.Goals as goal
+
+pub returns : goal.returns
+unfolding token_at
+returns c = simp (← c.skip.ensures, ← c.lexeme_at.ensures)
