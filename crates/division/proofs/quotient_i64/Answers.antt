@@ -1,0 +1,18 @@
+use mir.Syntax.{w64}
+use Rattle.division.proofs.Quotient.{negate-fits, divide-ok, quotient-least, quotient-negated, quotient-divided}
+use Rattle.division.proofs.quotient_i64.Goals as goal
+
+pub overflow_sub-result : goal.overflow_sub-result
+overflow_sub-result c = let s = c in negate-fits w64 s.ranges.a s.ranges.b c.if-a-eqminus9223372036854775808.false
+
+pub nonzero_div-result : goal.nonzero_div-result
+nonzero_div-result c = let s = c in divide-ok w64 s.ranges.a s.ranges.b s.requires c.if-b-eqminus1.false
+
+pub returns-then-a-eqminus9223372036854775808 : goal.returns-then-a-eqminus9223372036854775808
+returns-then-a-eqminus9223372036854775808 c = let s = c in quotient-least w64 s.ranges.a s.ranges.b c.if-b-eqminus1.true c.if-a-eqminus9223372036854775808.true
+
+pub returns-else-a-eqminus9223372036854775808 : goal.returns-else-a-eqminus9223372036854775808
+returns-else-a-eqminus9223372036854775808 c = let s = c in quotient-negated w64 s.ranges.a s.ranges.b c.if-b-eqminus1.true c.if-a-eqminus9223372036854775808.false
+
+pub returns-else-b-eqminus1 : goal.returns-else-b-eqminus1
+returns-else-b-eqminus1 c = let s = c in quotient-divided w64 s.ranges.a s.ranges.b c.if-b-eqminus1.false
