@@ -1,5 +1,3 @@
--- `syntax::mark_kind` meets its contract: one computed test of the table.
--- Assumes nothing.
 use mathlib.Core.Path.{◌≡◌, refl}
 use mathlib.Core.Bool.{Bool}
 use mathlib.Core.List.{List}
@@ -10,8 +8,7 @@ use lib.ListN.{length, get_or}
 use borrow.Author.Rules.{rules}
 use Rattle.grammar.proofs.TableTest.{every, at}
 use Rattle.syntax.specs.Kinds.{mark_kind}
-use Rattle.syntax.proofs.mark_kind.Statement.{statement}
-use Rattle.syntax.proofs.mark_kind.Tie as tie
+use Rattle.syntax.proofs.mark_kind.Goals as goal
 
 unfoldable mark_test : ℕ → ℕ → Bool
 mark_test b x = eqb x (48 + mark_kind b)
@@ -20,13 +17,10 @@ mark-right : (l : List ℕ) → length l ≡ 256 → T (every mark_test 0 l) →
 unfolding mark_test
 mark-right l n t b h = eqb→eq _ _ (at 0 mark_test l t b (omega arith))
 
-sub-result : tie.Need-overflow-sub-result
+pub overflow_sub-result : goal.overflow_sub-result
 unfolding mark_test mark_kind
-sub-result c = rw (mark-right _ refl tt c.args.kind (search rules)) (omega arith)
+overflow_sub-result c = rw (mark-right _ refl tt c.args.kind (search rules)) (omega arith)
 
-returns : tie.Need-returns
+pub returns : goal.returns
 unfolding mark_test mark_kind
 returns c = rw (mark-right _ refl tt c.args.kind (search rules)) (omega arith)
-
-pub mark-kind-spec : {M : Type 1} → statement M
-mark-kind-spec = tie.close (tie.spec (λ c. search rules) sub-result returns)
