@@ -11,7 +11,7 @@ import re
 import sys
 from pathlib import Path
 
-ROOTS = ["answers.Answered.answerOf", "answers.FreeRuns.FreeOfOrder"]
+ROOTS = ["answers.Answered.answer_of", "answers.FreeRuns.FreeOfOrder"]
 # Definitions that docs/READING.md reads by a law: the law's statement is read in their place, by these definitions of specs/.
 BY_LAW = {
     # the roles of tokens are the leaves of the derivation: syntax proofs/Labelling, Theorems
@@ -22,7 +22,7 @@ BY_LAW = {
     "judge.Sizes.size_passed": ["size_laws.SizeSentences.PassedAt", "size_laws.SizeSentences.LowestPassed"],
     "judge.Tally.after_token": [],
     # two types are one where element types and dimensions are: rules proofs/FactLaw
-    "dimrules.Types.sameShape": ["rules.Facts.AlikeShapes"],
+    "dimrules.Types.same_shape": ["rules.Facts.AlikeShapes"],
     # an op's names as operands, body, result: names proofs/TextLaw
     "names.Names.names_read": ["names.InOrder.operands_body_result"],
 }
@@ -111,7 +111,7 @@ def load():
 
 
 def target(source):
-    m = re.match(r"^Rattle·([a-z0-9_]+?)(?:·specs)?\.specs\.([A-Za-z0-9_]+)$", source)
+    m = re.match(r"^Rattle\.([a-z0-9_]+)\.specs\.([A-Za-z0-9_]+)$", source)
     return f"{m.group(1)}.{m.group(2)}" if m else None
 
 

@@ -132,7 +132,7 @@ def constant(name):
 
 
 def constants(comment, struct, pairs):
-    s = "// %s\npub struct %s {}\n\nimpl %s {\n" % (comment, struct, struct)
+    s = "// %s\n#[derive(Drop)]\npub struct %s {}\n\nimpl %s {\n" % (comment, struct, struct)
     return s + "\n".join("    pub const %s: u8 = %d;\n" % (constant(n), v) for n, v in pairs) + "}\n"
 
 
@@ -163,8 +163,8 @@ def write_tables():
 def write_cells():
     s = "-- The cells of src/tables.rt as a list, a row for each symbol; written by tools/tables.py.\n"
     s += "-- Assumes nothing.\n"
-    s += "use Prim.Native.Nat.{ℕ}\nuse Prim.Native.Char.{Char, code}\nuse Prim.Native.String as S\nuse mathlib.Core.List.{List, [], _∷_, _++_}\n\n"
-    s += "abbrev letters : S.String → List ℕ\nletters S.[] = []\nletters (S._∷_ c s) = code c ∷ letters s\n\n"
+    s += "use Prim.Native.Nat.{ℕ}\nuse Prim.Native.Char.{Char, code}\nuse Prim.Native.String as S\nuse mathlib.Core.List.{List, [], ◌∷◌, ◌++◌}\n\n"
+    s += "abbrev letters : S.String → List ℕ\nletters S.[] = []\nletters (S.◌∷◌ c s) = code c ∷ letters s\n\n"
     s += "abbrev rows : List S.String → List ℕ\nrows [] = []\nrows (r ∷ rs) = letters r ++ rows rs\n\n"
     s += "unfoldable pub cells : List ℕ\ncells =\n    rows (\n"
     for n, row in enumerate(CELLS):
@@ -174,7 +174,7 @@ def write_cells():
 
 def write_witness():
     s = "-- For each symbol a list of kinds that it derives, and the kinds that can follow it; written by tools/tables.py.\n"
-    s += "-- Assumes nothing.\nuse Prim.Native.Nat.{ℕ}\nuse mathlib.Core.List.{List, [], _∷_}\n"
+    s += "-- Assumes nothing.\nuse Prim.Native.Nat.{ℕ}\nuse mathlib.Core.List.{List, [], ◌∷◌}\n"
     for name, found in (("shortest", shortest()), ("follows", follows())):
         s += "\nunfoldable pub %s : List (List ℕ)\n%s =\n    [] ∷\n" % (name, name)
         for x in range(1, SYMBOL_COUNT):

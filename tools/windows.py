@@ -12,7 +12,7 @@ HEAD = """-- The two roles that can stand before each symbol of the grammar, and
 -- WindowLaw tests them at every production.
 -- Assumes nothing.
 use Prim.Native.Nat.{ℕ}
-use mathlib.Core.List.{List, [], _∷_}
+use mathlib.Core.List.{List, [], ◌∷◌}
 
 """
 
