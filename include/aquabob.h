@@ -3,9 +3,9 @@
  *
  * Three functions read, check and evaluate one StableHLO function given as text. Each is proved to meet its contract:
  * it takes every text, every input and every store, ends, writes nothing but the store, and its answer is the one
- * below and no other. `rt staticlib bench` makes target/staticlib/libbench.a; link with
+ * below and no other. `rt lib` in crates/bench makes crates/bench/out/libbench.a; link with
  *
- *     gcc -Iinclude program.c target/staticlib/libbench.a
+ *     gcc -Iinclude program.c crates/bench/out/libbench.a
  *
  * Slices. A slice passes as a pointer and then its length, counted in items. It must be memory of the caller's that
  * stays as it is during the call, aligned for its items, and `store`, which is written, must not overlap `text` or

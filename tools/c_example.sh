@@ -1,11 +1,11 @@
 #!/usr/bin/env bash
-# Builds examples/c/evaluate.c over include/aquabob.h with target/staticlib/libbench.a (`rt staticlib bench` makes it),
+# Builds examples/c/evaluate.c over include/aquabob.h with crates/bench/out/libbench.a (`rt lib` in crates/bench makes it),
 # runs it and compares what it prints with examples/c/evaluate.out. The header is also compiled as C++.
 set -eu
 cd "$(dirname "$0")/.."
-library=${BENCH_STATICLIB:-target/staticlib}/libbench.a
+library=${BENCH_STATICLIB:-crates/bench/out}/libbench.a
 if [ ! -f "$library" ]; then
-  echo "c_example: $library is not there: run 'rt staticlib bench' first" >&2
+  echo "c_example: $library is not there: run 'rt lib' in crates/bench first" >&2
   exit 2
 fi
 folder=$(mktemp -d)

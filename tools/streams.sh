@@ -1,6 +1,6 @@
 #!/usr/bin/env bash
 # Standard input and output of the two programs: a read that fails, an argument or a write that fails gives one line on standard error and nothing on
-# standard output; a text is read whole however it comes. Run from anywhere after the programs are in target/bin: tools/streams.sh
+# standard output; a text is read whole however it comes. Run from anywhere after `rt run` in crates/evaluate_main and crates/check_main has built the programs: tools/streams.sh
 # Prints each test that fails; exit status 0 only where none does.
 set -u
 cd "$(dirname "$0")/.." || exit 1
@@ -42,7 +42,7 @@ PY
 
 text=examples/sample.mlir
 for name in evaluate_main check_main; do
-  program=target/bin/$name
+  program=crates/$name/out/$name
   if [ "$name" = evaluate_main ]; then answer=$(cat examples/sample.out)$'\n'; else answer=$'accepted\n'; fi
 
   "$program" <"$text" >"$work/out" 2>"$work/err"
