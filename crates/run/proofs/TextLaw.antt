@@ -46,7 +46,7 @@ count-once j k zero h g = absurd (omega arith)
 count-once j k (suc n) h g = go (count-once j (suc k) n) (ℕ_discrete j k)
   where
     go : (suc k ≤ j → j < suc k + n → count j (count_from (suc k) n) ≡ 1) → Dec (j ≡ k) → count j (k ∷ count_from (suc k) n) ≡ 1
-    go ih (yes e) = rw e (count_head k (count_from (suc k) n) ∙ ap suc (count-before k (suc k) n (omega arith)))
+    go ih (yes e) = subst (λ (i : ℕ). count i (k ∷ count_from (suc k) n) ≡ 1) (sym e) (count_head k (count_from (suc k) n) ∙ ap suc (count-before k (suc k) n (omega arith)))
     go ih (no e) = count-other j k (count_from (suc k) n) e ∙ ih (omega arith) (omega arith)
 
 count_past : (j k n : ℕ) → k + n ≤ j → count j (count_from k n) ≡ 0

@@ -108,6 +108,7 @@ module _ {X : Type 0} {ok : X → Type 0} {f : X → X → X} (m : SemilatticeOn
 
   has : (t : Tree) → HasStart t → f s (tree_value f s xs t) ≡ tree_value f s xs t
   has (leaf start) here = m.idem s ok-s
+  has (leaf (element _)) h = elim h [ ]
   has (node t u) (left h) = sym (m.assoc s _ _ ok-s (tok t) (tok u)) ∙ ap (λ (b : X). f b (tree_value f s xs u)) (has t h)
   has (node t u) (right h) =
       m.comm s _ ok-s (m.closed _ _ (tok t) (tok u)) ∙ m.assoc _ _ s (tok t) (tok u) ok-s
