@@ -1,0 +1,11 @@
+use Rattle.types.proofs.DigitLaw.{above, fits-pos}
+use Rattle.types.specs.Numbers.{fitting}
+use mathlib.Core.Path.{sym, ap, ◌∙◌}
+use borrow.Author.Rules.{rules}
+use Rattle.types.proofs.numbers.at_least_zero.Goals as goal
+
+pub returns-then-n-highest : goal.returns-then-n-highest
+returns-then-n-highest c = ap fitting c.slot_for.ensures ∙ sym (fits-pos _ _ (rw (← c.highest.ensures) c.if-n-highest.true))
+
+pub returns : goal.returns
+returns c = sym (above _ _ (rw (← c.highest.ensures) c.if-n-highest.false))
