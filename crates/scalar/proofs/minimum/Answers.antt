@@ -1,0 +1,11 @@
+use Rattle.std.proofs.Common.{sym, ◌∙◌, rules}
+use Rattle.scalar.specs.Ops.{minimum_of}
+use Rattle.scalar.proofs.minimum.Goals as goal
+
+pub returns-then-less : goal.returns-then-less
+unfolding minimum_of
+returns-then-less c = simp (sym c.less.ensures ∙ c.if-less.true)
+
+pub returns-else-less : goal.returns-else-less
+unfolding minimum_of
+returns-else-less c = simp (sym c.less.ensures ∙ c.if-less.false)

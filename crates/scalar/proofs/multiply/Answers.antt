@@ -1,0 +1,15 @@
+use Rattle.std.proofs.Common.{sym, ◌∙◌, rules}
+use Rattle.scalar.specs.Ops.{multiply_of}
+use Rattle.element.proofs.Slots.{product-slot}
+use Rattle.scalar.proofs.multiply.Goals as goal
+
+pub returns-then-is_bool : goal.returns-then-is_bool
+unfolding multiply_of
+returns-then-is_bool c = simp (sym c.is_bool.ensures ∙ c.if-is_bool.true)
+
+pub returns : goal.returns
+unfolding multiply_of
+returns c =
+    let s = c in
+    simp (sym c.is_bool.ensures ∙ c.if-is_bool.false)
+    (c.fit.ensures ∙ rw c.wrapping_mul.ensures (sym (product-slot s.args.t s.ranges.a.fits s.ranges.b.fits)))

@@ -1,0 +1,7 @@
+use Rattle.std.proofs.Common.{rules}
+use Rattle.scalar.specs.Ops.{not_of}
+use Rattle.scalar.proofs.not.Goals as goal
+
+pub returns : goal.returns
+unfolding not_of
+returns c = rw c.all.ensures
