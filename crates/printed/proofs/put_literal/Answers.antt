@@ -1,0 +1,11 @@
+use Rattle.printed.specs.Printed.{literal_text}
+use borrow.Author.Rules.{rules}
+use Rattle.printed.proofs.put_literal.Goals as goal
+
+pub returns-then-is_bool : goal.returns-then-is_bool
+unfolding literal_text
+returns-then-is_bool c = rw (← c.is_bool.ensures, c.if-is_bool.true) c.put_boolean.ensures
+
+pub returns : goal.returns
+unfolding literal_text
+returns c = rw (← c.is_bool.ensures, c.if-is_bool.false) c.put_number.ensures

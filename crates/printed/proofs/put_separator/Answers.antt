@@ -1,0 +1,11 @@
+use borrow.Author.Tests.{eq-eqb, ne_eqb}
+use mathlib.Core.Path.{sym}
+use Rattle.laid.proofs.LaidLaw.{lay-none}
+use borrow.Author.Rules.{rules}
+use Rattle.printed.proofs.put_separator.Goals as goal
+
+pub returns-then-j-eq0 : goal.returns-then-j-eq0
+returns-then-j-eq0 c = rw (eq-eqb _ _ c.if-j-eq0.true) (sym (lay-none _))
+
+pub returns : goal.returns
+returns c = rw (ne_eqb _ _ c.if-j-eq0.false) c.put_text.ensures

@@ -1,0 +1,17 @@
+use borrow.Author.Rules.{rules}
+use mathlib.Core.Path.{◌≡◌, refl, ◌∙◌}
+use Prim.Native.Nat.{◌≤◌, ◌-◌}
+use native.Mathlib.Omega.{arith}
+use lib.ListN.{length, take}
+use Rattle.shape.specs.Index.{rest}
+use Rattle.laid.specs.Laid.{laid, lay}
+use Rattle.printed.specs.Printed.{shape_text}
+use Rattle.printed.proofs.PrintLaw.{shape-step, shape-end}
+use Rattle.printed.proofs.put_shape.Given as goal
+
+abbrev pub invariant-loop-d : goal.invariant-loop-d
+invariant-loop-d l =
+    (length l.out ≡ length l.initial.out) × (l.d ≤ l.rank) × (lay (shape_text (rest l.dims l.rank l.d)) (laid l.place l.out) ≡ lay (shape_text (take l.rank l.dims)) (laid l.from l.initial.out))
+
+abbrev pub decreases-loop-d : goal.decreases-loop-d
+decreases-loop-d l = l.rank - l.d
