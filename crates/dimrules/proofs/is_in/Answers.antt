@@ -7,15 +7,11 @@ use lib.Dec.{ltb}
 use Rattle.shape.specs.Place.{place_in}
 use Rattle.dimrules.specs.Dims.{list_of}
 use borrow.Author.Rules.{rules}
-use Rattle.dimrules.proofs.is_in.Statement.{statement}
-use Rattle.dimrules.proofs.is_in.Tie as tie
+use Rattle.dimrules.proofs.is_in.Goals as goal
 
-returns : tie.Need-returns
+pub returns : goal.returns
 returns c =
-    let a = c.before.before.before.args in
+    let a = c.args in
     let six : length a.a.list ≡ 6 = search rules in
-    ap (λ (p : ℕ). ltb p a.a.count) c.before.IsPlace-in.ensures
+    ap (λ (p : ℕ). ltb p a.a.count) c.place_in.ensures
     ∙ ap (ltb (place_in (list_of a.a) a.d)) (sym (length-take-le a.a.count a.a.list (omega arith)))
-
-pub is-in-spec : {M : Type 1} → statement M
-is-in-spec = tie.close (tie.spec (λ c κs. search rules) returns)

@@ -6,16 +6,12 @@ use mathlib.Core.Bool.{Bool, true, false}
 use Prim.Native.Nat.{ℕ, ◌^◌}
 use lib.Dec.{ltb, leb, leb-zero}
 use Rattle.dimrules.specs.Whole.{non_negative}
-use Rattle.dimrules.proofs.non_negative.Statement.{statement}
-use Rattle.dimrules.proofs.non_negative.Tie as tie
+use Rattle.dimrules.proofs.non_negative.Goals as goal
 
 same : (b : Bool) (w n : ℕ) → b ≡ le_z (pos 0) (pick b (pos w) (negsuc n))
 same true w n = simp leb-zero
 same false w n = refl
 
-returns : tie.Need-returns
+pub returns : goal.returns
 unfolding non_negative
 returns c = same (ltb c.args.w (2 ^ 63)) c.args.w _
-
-pub non-negative-spec : {M : Type 1} → statement M
-non-negative-spec = tie.close (tie.spec returns)

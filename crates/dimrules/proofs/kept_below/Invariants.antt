@@ -1,0 +1,16 @@
+use Rattle.dimrules.proofs.CountLaw.{count-in, count-out}
+use Rattle.dimrules.specs.Dims.{list_of, kept_below}
+use Rattle.shape.specs.Place.{is_in, count_below}
+use native.Mathlib.Omega.{arith}
+use Prim.Native.Nat.{ℕ, ◌≤◌, ◌-◌, ◌+◌}
+use mathlib.Core.Logic.{⊎_elim}
+use mathlib.Core.Bool.{not}
+use mathlib.Core.Path.{◌≡◌, refl, sym, ap, ◌∙◌}
+use borrow.Author.Rules.{rules}
+use Rattle.dimrules.proofs.kept_below.Given as goal
+
+abbrev pub invariant-loop-e : goal.invariant-loop-e
+invariant-loop-e l = (l.e ≤ l.d) × (l.p ≡ count_below (λ k. not (is_in (list_of l.a) k)) l.e) × (l.p ≤ l.e)
+
+abbrev pub decreases-loop-e : goal.decreases-loop-e
+decreases-loop-e l = l.d - l.e
