@@ -1,13 +1,10 @@
-// A line of output: an op's mnemonic, then its result's slots in decimal.
+// A line of output: an op's mnemonic, then its result's slots in decimal. A write that fails is passed over.
 #![tactic(auto)]
 
-pub fn show(name: &[u8], slots: &[u64]) {
-    io::write_all(1, name);
-    let mut i = 0;
-    while i < slots.len() {
-        io::write_all(1, b" ");
-        io::print_decimal(1, slots[i]);
-        i += 1;
+pub fn show(rt: &impl Print, name: &[u8], slots: &[u64]) {
+    let _ = rt.write_all(name);
+    for slot in slots {
+        let _ = rt.print(format_args!(" {slot}"));
     }
-    io::write_all(1, b"\n");
+    let _ = rt.write_all(b"\n");
 }

@@ -1,10 +1,6 @@
 -- The bytes of a text that are kept.
 -- Assumes nothing.
-use mathlib.Core.Path.{◌≡◌}
-use mathlib.Core.List.{List}
-use Prim.Native.Nat.{ℕ, ◌≤◌}
-use lib.ListN.{length, take}
-use lib.Seq.{length-take-le}
+use Rattle.std.proofs.Common.{◌≡◌, List, ℕ, length, take, length-take-le}
 use Rattle.streams.specs.Cut.{CutOff}
 
 module _ (room : ℕ) (bytes : List ℕ) (n more : ℕ) (cut : CutOff (length bytes) n more) where

@@ -1,10 +1,14 @@
-// A text from standard input, and bytes to standard output. What a read puts into memory and what a write passes on stand in no contract: those of libc and io
+// A text from standard input, and bytes to standard output. What the system puts into memory at a read and takes at a write stands in no contract: those of std
 // speak of counts only. A read or a write that fails gives one line on standard error, and a failed read is no end of the text.
 #![tactic(auto)]
 
 ghost use Rattle.std.specs.Prelude.{◌≡◌, ◌≤◌, length};
 ghost use Rattle.streams.specs.Cut.{CutOff};
 ghost use Rattle.streams.specs.Pieces.{piece_of};
+
+use std::env::{Env, FillError};
+use std::io;
+use std::io::{Read, Write};
 
 // Whether a read failed, and how many bytes came before.
 #[derive(Clone, Copy)]
@@ -22,41 +26,38 @@ pub struct Input {
 }
 
 // What a read into `buf` gave, by its answer.
-fn piece_of(got: isize, buf: &[u8]) -> Piece
-    ensures { result ≡ piece_of got (length buf.now) }
+#[tactic(auto, unfolding(crate::specs::Pieces::piece_of))]
+fn piece_of(got: &io::Result<usize>, buf: &[u8]) -> Piece
+    ensures { result ≡ piece_of got.now (length buf.now) }
 {
-    if got < 0 {
-        return Piece {
-            failed: true,
-            count: 0,
-        };
-    }
-    let n = io::count(got, buf);
+    let count = match got {
+        Ok(n) => (*n).min(buf.len()),
+        Err(_) => 0,
+    };
     Piece {
-        failed: false,
-        count: n,
+        failed: got.is_err(),
+        count,
     }
 }
 
 // One read into `buf`: no bytes where the input ends.
-fn read_once(buf: &mut [u8]) -> Piece
+fn read_once(rt: &impl Eprint, input: &mut impl Read, buf: &mut [u8]) -> Piece
     ensures { result.count ≤ length buf.new }
 {
-    let got = libc::read(libc::STDIN_FILENO, buf);
-    let p = piece_of(got, buf);
-    if p.failed {
-        os::fail(b"standard input");
+    let got = input.read(buf);
+    if let Err(e) = &got {
+        let _ = rt.eprintln(format_args!("standard input: {e}"));
     }
-    p
+    piece_of(&got, buf)
 }
 
 // Reads into `buf` until it is full, the input ends or a read fails.
-fn read_front(buf: &mut [u8]) -> Piece
+fn read_front(rt: &impl Eprint, input: &mut impl Read, buf: &mut [u8]) -> Piece
     ensures { result.count ≤ length buf.new }
 {
     let mut done: usize = 0;
     while done < buf.len() {
-        let p = read_once(&mut buf[done..]);
+        let p = read_once(rt, input, &mut buf[done..]);
         let n = p.count;
         if n == 0 {
             return Piece {
@@ -73,21 +74,21 @@ fn read_front(buf: &mut [u8]) -> Piece
 }
 
 // Reads and forgets at most 65,536 bytes.
-fn read_past() -> Piece
+fn read_past(rt: &impl Eprint, input: &mut impl Read) -> Piece
     ensures { result.count ≤ 65536 }
 {
-    let mut chunk = io::large_buffer();
-    read_front(&mut chunk)
+    let mut chunk = [0u8; 65536];
+    read_front(rt, input, &mut chunk)
 }
 
-// How many bytes standard input still has, counted up to 2^32. No contract can say which number: that is what the reads give.
-fn further_bytes() -> Piece
+// How many bytes the input still has, counted up to 2^32. No contract can say which number: that is what the reads give.
+fn further_bytes(rt: &impl Eprint, input: &mut impl Read) -> Piece
     ensures { result.count ≤ 4294967296 }
 {
     let mut total = 0;
     let mut turns: usize = 65536;
     while turns > 0 {
-        let p = read_past();
+        let p = read_past(rt, input);
         let n = p.count;
         if p.failed {
             return p;
@@ -104,11 +105,11 @@ fn further_bytes() -> Piece
     }
 }
 
-// Reads the text on standard input: its first bytes into `text`; those that follow are counted.
-pub fn read_text(text: &mut [u8]) -> Input
+// Reads the text on standard input, `input`: its first bytes into `text`; those that follow are counted.
+pub fn read_text(rt: &impl Eprint, input: &mut impl Read, text: &mut [u8]) -> Input
     ensures { CutOff (length text.new) result.len result.more }
 {
-    let front = read_front(text);
+    let front = read_front(rt, input, text);
     if front.failed {
         return Input {
             failed: true,
@@ -124,7 +125,7 @@ pub fn read_text(text: &mut [u8]) -> Input
             more: 0,
         };
     }
-    let rest = further_bytes();
+    let rest = further_bytes(rt, input);
     Input {
         failed: rest.failed,
         len: n,
@@ -132,22 +133,18 @@ pub fn read_text(text: &mut [u8]) -> Input
     }
 }
 
-// Writes all bytes to standard output.
-pub fn write_text(bytes: &[u8]) {
-    if io::write_all(libc::STDOUT_FILENO, bytes) {
-        return;
+// Writes all bytes to standard output, `output`.
+pub fn write_text(rt: &impl Eprint, output: &mut impl Write, bytes: &[u8]) {
+    if let Err(e) = output.write_all(bytes) {
+        let _ = rt.eprintln(format_args!("standard output: {e}"));
     }
-    os::fail(b"standard output");
 }
 
 // Whether the program was started without arguments: it takes none.
-pub fn no_arguments() -> bool {
-    if os::arg_count() < 2 {
+pub fn no_arguments(rt: &(impl Env + Eprint)) -> bool {
+    if let Err(FillError::NotPresent) = rt.arg(1, &mut [0; 1]) {
         return true;
     }
-    io::write_all(
-        libc::STDERR_FILENO,
-        b"no argument is taken: the text is read from standard input\n",
-    );
+    let _ = rt.eprintln("no argument is taken: the text is read from standard input");
     false
 }

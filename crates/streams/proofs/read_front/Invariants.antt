@@ -1,0 +1,9 @@
+-- As many bytes as were read lie within `buf`; the measure is what is left of it.
+use Rattle.std.proofs.Common.{◌≤◌, ◌-◌, length}
+use Rattle.streams.proofs.read_front.Given as goal
+
+abbrev pub invariant-loop-done : goal.invariant-loop-done
+invariant-loop-done g l = l.done ≤ length l.buf
+
+abbrev pub decreases-loop-done : goal.decreases-loop-done
+decreases-loop-done g l = length l.buf - l.done
