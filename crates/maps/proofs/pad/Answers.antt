@@ -6,13 +6,12 @@ use Rattle.shape.specs.Dims.{dims_of}
 use Rattle.shape.proofs.IndexLaw.{dim-le-volume}
 use Rattle.maps.proofs.AttributeLaw.{dims-le, same, pad-take}
 use borrow.Author.Rules.{rules}
-use Rattle.maps.proofs.pad.Statement.{statement}
-use Rattle.maps.proofs.pad.Tie as tie
+use Rattle.maps.proofs.pad.Goals as goal
 
-map-into-requires : tie.Need-map-into-requires
-map-into-requires c κs =
-    let a = c.before.before.before.args in
-    let p = c.before.before.before.requires in
+pub map_into-requires : goal.map_into-requires
+map_into-requires c =
+    let a = c.args in
+    let p = c.requires in
     let n = a.from.rank in
     let from = dims_of a.from in
     let to = dims_of a.to in (
@@ -30,10 +29,7 @@ map-into-requires c κs =
       p.0.result,
     )
 
-returns : tie.Need-returns
+pub returns : goal.returns
 returns c =
-    let a = c.before.before.before.before.before.before.args in
-    c.before.before.map-into.ensures ∙ pad-take a.from.rank (dims_of a.from) (dims_of a.to) a.x.now (dims-le a.from.rank a.from.dims) a.low a.interior a.z
-
-pub pad-spec : {M : Type 1} → statement M
-pad-spec = tie.close (tie.spec map-into-requires (λ c. search rules) returns)
+    let a = c.args in
+    c.map_into.ensures ∙ pad-take a.from.rank (dims_of a.from) (dims_of a.to) a.x.now (dims-le a.from.rank a.from.dims) a.low a.interior a.z

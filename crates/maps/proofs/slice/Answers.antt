@@ -7,13 +7,12 @@ use Rattle.shape.proofs.IndexLaw.{dim-le-volume}
 use Rattle.maps.proofs.AttributeLaw.{dims-le, slice-index-take, slice-take}
 use Rattle.maps.proofs.SliceLaw.{slice-below}
 use borrow.Author.Rules.{rules}
-use Rattle.maps.proofs.slice.Statement.{statement}
-use Rattle.maps.proofs.slice.Tie as tie
+use Rattle.maps.proofs.slice.Goals as goal
 
-map-into-requires : tie.Need-map-into-requires
-map-into-requires c κs =
-    let a = c.before.before.before.args in
-    let p = c.before.before.before.requires in
+pub map_into-requires : goal.map_into-requires
+map_into-requires c =
+    let a = c.args in
+    let p = c.requires in
     let n = a.from.rank in
     let from = dims_of a.from in (
       record {
@@ -33,10 +32,7 @@ map-into-requires c κs =
       p.0.result,
     )
 
-returns : tie.Need-returns
+pub returns : goal.returns
 returns c =
-    let a = c.before.before.before.before.before.before.args in
-    c.before.before.map-into.ensures ∙ slice-take a.from.rank (dims_of a.from) (dims_of a.to) a.x.now (dims-le a.from.rank a.from.dims) a.start a.strides
-
-pub slice-spec : {M : Type 1} → statement M
-slice-spec = tie.close (tie.spec map-into-requires (λ c. search rules) returns)
+    let a = c.args in
+    c.map_into.ensures ∙ slice-take a.from.rank (dims_of a.from) (dims_of a.to) a.x.now (dims-le a.from.rank a.from.dims) a.start a.strides

@@ -1,0 +1,19 @@
+use Prim.Native.Nat.{ℕ, ◌≤◌, ◌-◌, ◌+◌}
+use mathlib.Core.Path.{◌≡◌, ◌∙◌, ap, refl}
+use mathlib.Core.List.{List, ◌++◌}
+use native.Mathlib.Omega.{arith}
+use lib.ListN.{length, drop, set}
+use Rattle.lists.specs.Lists.{tab}
+use Rattle.lists.proofs.TabLaw.{fill_step, length-fill, fill-whole}
+use Rattle.shape.specs.Index.{size, unravel}
+use Rattle.shape.specs.Dims.{dims_of}
+use Rattle.maps.specs.Concatenation.{concat_at, shapes_of, inputs_in}
+use borrow.Author.Rules.{rules}
+use Rattle.maps.proofs.concatenate.Given as goal
+
+abbrev pub invariant-loop-k : goal.invariant-loop-k
+invariant-loop-k l =
+    (l.k ≤ l.n) × (l.out ≡ tab l.k (λ j. concat_at l.dimension (shapes_of l.shapes l.count) (inputs_in l.x l.shapes l.places l.count) (unravel (dims_of l.to) j)) ++ drop l.k l.initial.out)
+
+abbrev pub decreases-loop-k : goal.decreases-loop-k
+decreases-loop-k l = l.n - l.k

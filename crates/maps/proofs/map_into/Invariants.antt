@@ -1,0 +1,18 @@
+use Prim.Native.Nat.{ℕ, ◌≤◌, ◌-◌, ◌+◌}
+use mathlib.Core.Path.{◌≡◌, ◌∙◌, ap, refl}
+use mathlib.Core.List.{List, ◌++◌}
+use native.Mathlib.Omega.{arith}
+use lib.ListN.{length, drop, set}
+use Rattle.lists.specs.Lists.{tab}
+use Rattle.lists.proofs.TabLaw.{fill_step, length-fill, fill-whole}
+use Rattle.shape.specs.Index.{size, unravel}
+use Rattle.shape.specs.Dims.{dims_of}
+use Rattle.maps.specs.Kinds.{mapped_at}
+use borrow.Author.Rules.{rules}
+use Rattle.maps.proofs.map_into.Given as goal
+
+abbrev pub invariant-loop-k : goal.invariant-loop-k
+invariant-loop-k l = (l.k ≤ l.slots) × (l.out ≡ tab l.k (λ j. mapped_at l.m (dims_of l.from) l.x l.z (unravel (dims_of l.to) j)) ++ drop l.k l.initial.out)
+
+abbrev pub decreases-loop-k : goal.decreases-loop-k
+decreases-loop-k l = l.slots - l.k
