@@ -1,0 +1,26 @@
+use borrow.Author.Rules.{rules}
+use mathlib.Core.Path.{◌≡◌, refl, ◌∙◌}
+use native.Mathlib.Omega.{arith}
+use mir.Syntax.{w64}
+use mir.Val.{Fits}
+use lib.ListN.{length, get_or}
+use lib.Dec.{eqb}
+use Rattle.shape.specs.Index.{rest}
+use Rattle.laid.specs.Laid.{laid}
+use Rattle.dense.specs.Dense.{items_at, dense_at}
+use Rattle.dense.specs.Filled.{after}
+use Rattle.dense.proofs.ReadLaw.{close-items, no-separator, no_item, next-item, dense-one, no-bracket, first-item}
+use Prim.Native.Nat.{ℕ, ◌<◌, ◌≤◌, ◌-◌}
+use Rattle.dense.proofs.+lists.Given as goal
+
+abbrev pub invariant-loop-j : goal.invariant-loop-j
+invariant-loop-j l =
+    (l.j ≤ l.size) × (length l.out ≡ length l.initial.out)
+    × (after (items_at (λ b. dense_at l.e (rest l.shape.dims l.shape.rank (l.shape.rank - (l.k - 1))) l.text b) (l.size - l.j) (eqb l.j 0) l.text l.next) (laid l.place l.out)
+    ≡ after (dense_at l.e (rest l.shape.dims l.shape.rank (l.shape.rank - l.k)) l.text l.at) (laid l.from l.initial.out))
+
+abbrev pub decreases-loop-j : goal.decreases-loop-j
+decreases-loop-j l = l.size - l.j
+
+abbrev pub decreases-lists : goal.decreases-lists
+decreases-lists l = l.k
