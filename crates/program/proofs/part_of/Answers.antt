@@ -1,5 +1,3 @@
--- `program::part_of` meets its contract. One computed test of the table.
--- Assumes nothing.
 use mathlib.Core.Path.{◌≡◌, refl}
 use mathlib.Core.Bool.{Bool}
 use mathlib.Core.List.{List}
@@ -10,8 +8,7 @@ use lib.ListN.{length, get_or}
 use borrow.Author.Rules.{rules}
 use Rattle.grammar.proofs.TableTest.{every, at}
 use Rattle.program.specs.Parts.{part_of}
-use Rattle.program.proofs.part_of.Statement.{statement}
-use Rattle.program.proofs.part_of.Tie as tie
+use Rattle.program.proofs.part_of.Goals as goal
 
 unfoldable part_test : ℕ → ℕ → Bool
 part_test b x = eqb x (48 + part_of b)
@@ -20,13 +17,10 @@ part_right : (l : List ℕ) → length l ≡ 256 → T (every part_test 0 l) →
 unfolding part_test
 part_right l n t b h = eqb→eq _ _ (at 0 part_test l t b (omega arith))
 
-sub-result : tie.Need-overflow-sub-result
+pub overflow_sub-result : goal.overflow_sub-result
 unfolding part_test part_of
-sub-result c = rw (part_right _ refl tt c.args.role (search rules)) (omega arith)
+overflow_sub-result c = rw (part_right _ refl tt c.args.role (search rules)) (omega arith)
 
-returns : tie.Need-returns
+pub returns : goal.returns
 unfolding part_test part_of
 returns c = rw (part_right _ refl tt c.args.role (search rules)) (omega arith)
-
-pub part-of-spec : {M : Type 1} → statement M
-part-of-spec = tie.close (tie.spec (λ c. search rules) sub-result returns)
