@@ -1,0 +1,6 @@
+use Rattle.scope.proofs.ScopeLaw.{pushed}
+use borrow.Author.Rules.{rules}
+use Rattle.scope.proofs.push.Goals as goal
+
+pub returns : goal.returns
+returns c = pushed _ _ _ c.requires.0 c.requires.1

@@ -1,0 +1,7 @@
+use Rattle.scope.specs.Scope.{same_at}
+use borrow.Author.Rules.{rules}
+use Rattle.scope.proofs.same_at.Goals as goal
+
+pub returns : goal.returns
+unfolding same_at
+returns c = simp (← c.same_name.ensures, ← c.name_at-2.ensures, ← c.name_at.ensures)

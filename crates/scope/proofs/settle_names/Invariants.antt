@@ -1,0 +1,13 @@
+use mathlib.Core.Path.{sym, ◌∙◌}
+use borrow.Author.Tests.{ltb-true}
+use Rattle.scope.specs.Scoped.{answered}
+use Rattle.scope.proofs.ScopeLaw.{Settling, settling-first, settling-next, settling-fault, settling-end, still-waits}
+use borrow.Author.Rules.{rules}
+use native.Mathlib.Omega.{arith}
+use Rattle.scope.proofs.settle_names.Given as goal
+
+abbrev pub invariant-loop-k : goal.invariant-loop-k
+invariant-loop-k l = Settling l.text l.initial.entries l.top l.k l.entries
+
+abbrev pub decreases-loop-k : goal.decreases-loop-k
+decreases-loop-k l = l.k
