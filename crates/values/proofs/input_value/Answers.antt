@@ -1,0 +1,7 @@
+use Rattle.values.specs.Values.{input_value}
+use borrow.Author.Rules.{rules}
+use Rattle.values.proofs.input_value.Goals as goal
+
+pub returns : goal.returns
+unfolding input_value
+returns c = simp (← c.type_of-ty.ensures, ← c.place_of-name.ensures)

@@ -1,0 +1,7 @@
+use Rattle.values.specs.Values.{result_value}
+use borrow.Author.Rules.{rules}
+use Rattle.values.proofs.result_value.Goals as goal
+
+pub returns : goal.returns
+unfolding result_value
+returns c = simp (← c.type_of-ty.ensures, ← c.place_of-name.ensures)

@@ -1,0 +1,7 @@
+use Rattle.values.specs.Values.{values_of}
+use borrow.Author.Rules.{rules}
+use Rattle.values.proofs.values_of.Goals as goal
+
+pub returns : goal.returns
+unfolding values_of
+returns c = simp (← c.values_in.ensures, ← c.program_of.ensures)
