@@ -18,7 +18,7 @@ use Rattle.inputs.proofs.slot_fits.Tie as tie
 -- the element read, whatever stands for one that is not there
 read : (s : tie.Start) (i : ℕ) (d : Value) → i ≡ input_of s.args.vs s.args.s → get_or s.args.vs.list i d ≡ get_or s.args.vs.list i no_value
 read s i d e =
-    let long : length s.args.vs.list ≡ 264 = sym (length-map s.args.vs.list the_type.to) ∙ s.well-formed.0.1.1.1.1.0.1.0.1 in
+    let long : length s.args.vs.list ≡ 264 = s.well-formed.0.1.1.1.1.0.1.0.1 in
     any-default s.args.vs.list i d no_value (omega (arith, s.requires.1, long, e, input-le s.args.vs s.args.s))
 
 array-copy-out-v : tie.Need-array-copy-out-v

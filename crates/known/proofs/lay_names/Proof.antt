@@ -31,7 +31,7 @@ slice-write-entries c = omega (arith, c.before.before.loop.invariant.1.at, c.bef
 loop-again : tie.Need-loop-preserved invariant-loop decreases-loop
 loop-again c =
     let s = c.before.before.before.before in
-    let long : length s.args.values.list ≡ 264 = sym (length-map s.args.values.list the_type.to) ∙ s.well-formed.0.1.1.1.1.0.1.0.1 in
+    let long : length s.args.values.list ≡ 264 = s.well-formed.0.1.1.1.1.0.1.0.1 in
     (omega arith, laying-next _ c.before.before.loop.invariant.1 (omega (arith, s.requires.1)) (omega (arith, s.requires.0)))
 
 same_length : tie.Need-same-length invariant-loop decreases-loop

@@ -13,7 +13,7 @@ use Rattle.offsets.proofs.value_size.Goals as goal
 
 pub size_of-requires : goal.size_of-requires
 size_of-requires c =
-    let read_ : (d : Value) → get_or c.args.vs.list c.args.i d ≡ get_or c.args.vs.list c.args.i no_value = (λ d. let long : length c.args.vs.list ≡ 264 = sym (length-map c.args.vs.list the_type.to) ∙ c.well_formed.0.1.1.1.1.0.1.0.1 in
+    let read_ : (d : Value) → get_or c.args.vs.list c.args.i d ≡ get_or c.args.vs.list c.args.i no_value = (λ d. let long : length c.args.vs.list ≡ 264 = c.well_formed.0.1.1.1.1.0.1.0.1 in
     any-default c.args.vs.list c.args.i d no_value (omega (arith, c.requires.0, long))) in
     let s = c in
     rw (read_ _) (s.requires.1.sized s.args.i s.requires.0)
@@ -21,6 +21,6 @@ size_of-requires c =
 pub returns : goal.returns
 unfolding size_at
 returns c =
-    let read_ : (d : Value) → get_or c.args.vs.list c.args.i d ≡ get_or c.args.vs.list c.args.i no_value = (λ d. let long : length c.args.vs.list ≡ 264 = sym (length-map c.args.vs.list the_type.to) ∙ c.well_formed.0.1.1.1.1.0.1.0.1 in
+    let read_ : (d : Value) → get_or c.args.vs.list c.args.i d ≡ get_or c.args.vs.list c.args.i no_value = (λ d. let long : length c.args.vs.list ≡ 264 = c.well_formed.0.1.1.1.1.0.1.0.1 in
     any-default c.args.vs.list c.args.i d no_value (omega (arith, c.requires.0, long))) in
     c.size_of.ensures ∙ ap (λ (v : Value). size (dims_of v.ty.shape)) (read_ _)

@@ -19,7 +19,7 @@ returns : tie.Need-returns
 unfolding operand_typed
 returns c =
     let s = c.before.before.before.before.before.before.before.before.before in
-    let long : length s.args.values.list ≡ 264 = sym (length-map s.args.values.list the_type.to) ∙ s.well-formed.1.1.0.1.1.1.1.0.1.0.1 in
+    let long : length s.args.values.list ≡ 264 = s.well-formed.1.1.0.1.1.1.1.0.1.0.1 in
     let i = c.before.before.before.before.before.before.value-named.result in
     let h = c.before.before.before.before.if1.true in
     let q : get_or s.args.values.list i no_value ≡ get_or s.args.values.list i _ = any-default s.args.values.list i no_value _ (omega (arith, h, s.requires.0, long)) in

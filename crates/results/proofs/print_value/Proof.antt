@@ -23,7 +23,7 @@ use Rattle.results.proofs.print_value.Tie as tie
 -- the element read, whatever stands for one that is not there
 read : (s : tie.Start) (d : Value) → get_or s.args.vs.list s.args.i d ≡ get_or s.args.vs.list s.args.i no_value
 read s d =
-    let long : length s.args.vs.list ≡ 264 = sym (length-map s.args.vs.list the_type.to) ∙ s.well-formed.0.1.1.1.1.0.1.0.1 in
+    let long : length s.args.vs.list ≡ 264 = s.well-formed.0.1.1.1.1.0.1.0.1 in
     any-default s.args.vs.list s.args.i d no_value (omega (arith, s.requires.0, long))
 
 -- how many elements it has
