@@ -1,0 +1,15 @@
+use Rattle.elementwise.proofs.FillLaw.{Done, done_none, done_next, done_all}
+use Rattle.elementwise.specs.Elementwise.{convert_at}
+use lib.ListN.{length}
+use Prim.Native.Nat.{◌-◌}
+use borrow.Author.Rules.{rules}
+use Rattle.elementwise.proofs.convert_into.Goals as goal
+
+pub loop-k-init : goal.loop-k-init
+loop-k-init c = done_none
+
+pub loop-k-preserved : goal.loop-k-preserved
+loop-k-preserved c = done_next _ c.loop-k-test.true c.convert.ensures c.loop-k.invariant
+
+pub returns : goal.returns
+returns c = done_all c.loop-k-test.false c.loop-k.invariant

@@ -1,0 +1,13 @@
+use Rattle.elementwise.proofs.FillLaw.{Done, done_none, done_next, done_all, spread-within}
+use Rattle.elementwise.specs.Elementwise.{select_at}
+use lib.ListN.{length}
+use Prim.Native.Nat.{◌-◌}
+use native.Mathlib.Omega.{arith}
+use borrow.Author.Rules.{rules}
+use Rattle.elementwise.proofs.select_into.Given as goal
+
+abbrev pub invariant-loop-k : goal.invariant-loop-k
+invariant-loop-k l = Done (select_at l.single l.pred l.x l.y) l.initial.out l.k l.out
+
+abbrev pub decreases-loop-k : goal.decreases-loop-k
+decreases-loop-k l = length l.initial.out - l.k
