@@ -12,24 +12,20 @@ use Rattle.shape.proofs.IndexLaw.{at-six}
 use Rattle.shape.proofs.ElementLaw.{element_at-front}
 use Rattle.reduction.specs.Rows.{inserted}
 use borrow.Author.Rules.{rules}
-use Rattle.reduction.proofs.row_element.Statement.{statement}
-use Rattle.reduction.proofs.row_element.Tie as tie
+use Rattle.reduction.proofs.row_element.Goals as goal
 
-returns : tie.Need-returns
+pub returns : goal.returns
 returns c =
-    let s = c.before.before.before.before in
+    let s = c in
     let a = s.args in
     let six : length a.from.dims ≡ 6 = search rules in
     let from = dims_of a.from in
     let d = take a.count a.dimensions in
     let ranked : a.from.rank ≡ length from = sym (length-take-le a.from.rank a.from.dims (omega (arith, s.requires.0.rank))) in
-    let seen : at c.before.before.index_at.result ≡ at (unravel (dims_of a.inner) a.q) = ap at c.before.before.index_at.ensures ∙ at-six (unravel (dims_of a.inner) a.q) in
-    let u : List ℕ = tab (length from) (inserted d (at a.j) (at c.before.before.index_at.result)) in
-    c.element-at.ensures
-    ∙ ap (λ (i : List ℕ). element_at a.x.now from i 0) c.before.insert-index.ensures
-    ∙ ap (λ (n : ℕ). element_at a.x.now from (in_six (tab n (inserted d (at a.j) (at c.before.before.index_at.result)))) 0) ranked
+    let seen : at c.index_at-r.result ≡ at (unravel (dims_of a.inner) a.q) = ap at c.index_at-r.ensures ∙ at-six (unravel (dims_of a.inner) a.q) in
+    let u : List ℕ = tab (length from) (inserted d (at a.j) (at c.index_at-r.result)) in
+    c.element_at.ensures
+    ∙ ap (λ (i : List ℕ). element_at a.x.now from i 0) c.insert_index-i.ensures
+    ∙ ap (λ (n : ℕ). element_at a.x.now from (in_six (tab n (inserted d (at a.j) (at c.index_at-r.result)))) 0) ranked
     ∙ element_at-front a.x.now from u (drop (length u) (replicate 6 0)) 0 (length-tab (length from) _)
     ∙ ap (λ (r : ℕ → ℕ). element_at a.x.now from (tab (length from) (inserted d (at a.j) r)) 0) seen
-
-pub row-element-spec : {M : Type 1} → statement M
-row-element-spec = tie.close (tie.spec (λ c κs. search rules) (λ c κs. search rules) (λ c κs. search rules) returns)
