@@ -1,0 +1,14 @@
+use mathlib.Core.Path.{refl, ◌∙◌}
+use lib.ListN.{length, get_or}
+use Prim.Native.Nat.{◌-◌}
+use native.Mathlib.Omega.{arith}
+use borrow.Author.Rules.{rules}
+use Rattle.elementwise.proofs.FillLaw.{Done, done_none, done_next, done_all}
+use Rattle.constants.proofs.ConstantLaw.{all_read}
+use Rattle.constants.proofs.constant_into.Given as goal
+
+abbrev pub invariant-loop-out : goal.invariant-loop-out
+invariant-loop-out l = Done (λ j. get_or l.values j 0) l.initial.out l.k l.out
+
+abbrev pub decreases-loop-out : goal.decreases-loop-out
+decreases-loop-out l = length l.initial.out - l.k
