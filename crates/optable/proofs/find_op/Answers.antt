@@ -2,12 +2,11 @@ use Rattle.optable.specs.Table.{names, op_names, attribute_names, choice_kind_na
 use Rattle.optable.specs.Find.{find_op}
 use Rattle.optable.proofs.TableLaw.{names-length}
 use borrow.Author.Rules.{rules}
-use Rattle.optable.proofs.find_op.Statement.{statement}
-use Rattle.optable.proofs.find_op.Tie as tie
+use Rattle.optable.proofs.find_op.Goals as goal
 
-returns : tie.Need-returns
+pub find-requires : goal.find-requires
+find-requires c = search (rules, names-length)
+
+pub returns : goal.returns
 unfolding find_op names op_names attribute_names choice_kind_names choice_names ops attributes choice_kinds choices
 returns c = c.find.ensures
-
-pub find-op-spec : {M : Type 1} → statement M
-find-op-spec = tie.close (tie.spec (λ c κs. search (rules, names-length)) returns)
