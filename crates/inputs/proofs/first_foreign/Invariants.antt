@@ -1,0 +1,14 @@
+use Prim.Native.Nat.{◌≤◌, ◌-◌}
+use mathlib.Core.Path.{sym, ◌∙◌}
+use native.Mathlib.Omega.{arith}
+use borrow.Author.Rules.{rules}
+use borrow.Author.Tests.{not-true, not-false}
+use Rattle.dimrules.proofs.CountLaw.{Reached, reach-none, reach-next, reach_here, reach-end}
+use Rattle.inputs.specs.Inputs.{input_slots, slot_fits, first_foreign}
+use Rattle.inputs.proofs.first_foreign.Given as goal
+
+abbrev pub invariant-loop-s : goal.invariant-loop-s
+invariant-loop-s l = (l.s ≤ l.count) × Reached (input_slots l.vs) (slot_fits l.vs l.inputs) l.s
+
+abbrev pub decreases-loop-s : goal.decreases-loop-s
+decreases-loop-s l = l.count - l.s
