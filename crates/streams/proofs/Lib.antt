@@ -1,2 +1,3 @@
 pub mod CutLaw
 pub mod PieceLaw
+pub mod TookLaw

@@ -1,6 +1,7 @@
 -- What a read's answer says: it failed, or so many bytes came.
 -- Assumes nothing.
-use Rattle.std.proofs.Common.{◌≡◌, ℕ, ◌≤◌, min, true, false, Result, Ok, Err, refl, arith}
+use Rattle.std.proofs.Common.{◌≡◌, ℕ, ◌≤◌, min, true, false, Result, Ok, Err, refl, sym, ◌∙◌, ap, arith}
+use mathlib.Core.Bool.{true≢false}
 use Rattle.streams.specs.declared.Piece.{Piece}
 use Rattle.streams.specs.Pieces.{piece, piece_of}
 
@@ -16,3 +17,8 @@ pub piece-fits : {E : Type 0} (r : Result ℕ E) (room : ℕ) (p : Piece) → p 
 unfolding piece_of
 piece-fits (Ok n) room p e = rw e (omega arith)
 piece-fits (Err x) room p e = rw e (omega arith)
+
+pub piece-failed : {E : Type 0} (r : Result ℕ E) (room : ℕ) (p : Piece) → p ≡ piece_of r room → p.failed ≡ true → p.count ≡ 0
+unfolding piece_of
+piece-failed (Ok n) room p e f = absurd (true≢false (sym f ∙ ap (λ (q : Piece). q.failed) e))
+piece-failed (Err x) room p e f = ap (λ (q : Piece). q.count) e

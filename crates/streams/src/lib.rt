@@ -2,8 +2,9 @@
 // speak of counts only. A read or a write that fails gives one line on standard error, and a failed read is no end of the text.
 #![tactic(auto)]
 
-ghost use Rattle.std.specs.Prelude.{◌≡◌, ◌≤◌, length};
+ghost use Rattle.std.specs.Prelude.{◌≡◌, ◌<◌, ◌≤◌, false, true, length, take, IfSome};
 ghost use Rattle.streams.specs.Cut.{CutOff};
+ghost use Rattle.streams.specs.Known.{Took, TookCount, IsKept};
 ghost use Rattle.streams.specs.Pieces.{piece_of};
 
 use std::env::{Env, FillError};
@@ -41,8 +42,10 @@ fn piece_of(got: &io::Result<usize>, buf: &[u8]) -> Piece
 }
 
 // One read into `buf`: no bytes where the input ends.
-fn read_once(rt: &impl Eprint, input: &mut impl Read, buf: &mut [u8]) -> Piece
-    ensures { result.count ≤ length buf.new }
+fn read_once<R: Read>(rt: &impl Eprint, input: &mut R, buf: &mut [u8]) -> Piece
+    ensures within { result.count ≤ length buf.new }
+    ensures none { result.failed ≡ true → result.count ≡ 0 }
+    ensures bytes { result.failed ≡ false → Took (R.remaining input.old) (R.remaining input.new) (take result.count buf.new) ((result.count ≡ 0) × (0 < length buf.new)) }
 {
     let got = input.read(buf);
     if let Err(e) = &got {
@@ -52,8 +55,9 @@ fn read_once(rt: &impl Eprint, input: &mut impl Read, buf: &mut [u8]) -> Piece
 }
 
 // Reads into `buf` until it is full, the input ends or a read fails.
-fn read_front(rt: &impl Eprint, input: &mut impl Read, buf: &mut [u8]) -> Piece
-    ensures { result.count ≤ length buf.new }
+fn read_front<R: Read>(rt: &impl Eprint, input: &mut R, buf: &mut [u8]) -> Piece
+    ensures within { result.count ≤ length buf.new }
+    ensures bytes { result.failed ≡ false → Took (R.remaining input.old) (R.remaining input.new) (take result.count buf.new) (result.count < length buf.new) }
 {
     let mut done: usize = 0;
     while done < buf.len() {
@@ -74,16 +78,18 @@ fn read_front(rt: &impl Eprint, input: &mut impl Read, buf: &mut [u8]) -> Piece
 }
 
 // Reads and forgets at most 65,536 bytes.
-fn read_past(rt: &impl Eprint, input: &mut impl Read) -> Piece
-    ensures { result.count ≤ 65536 }
+fn read_past<R: Read>(rt: &impl Eprint, input: &mut R) -> Piece
+    ensures within { result.count ≤ 65536 }
+    ensures bytes { result.failed ≡ false → TookCount (R.remaining input.old) (R.remaining input.new) result.count (result.count < 65536) }
 {
     let mut chunk = [0u8; 65536];
     read_front(rt, input, &mut chunk)
 }
 
-// How many bytes the input still has, counted up to 2^32. No contract can say which number: that is what the reads give.
-fn further_bytes(rt: &impl Eprint, input: &mut impl Read) -> Piece
-    ensures { result.count ≤ 4294967296 }
+// How many bytes the input still has, counted up to 2^32. Of standard input no contract can say which number: that is what the reads give.
+fn further_bytes<R: Read>(rt: &impl Eprint, input: &mut R) -> Piece
+    ensures within { result.count ≤ 4294967296 }
+    ensures bytes { result.failed ≡ false → TookCount (R.remaining input.old) (R.remaining input.new) result.count (result.count < 4294967296) }
 {
     let mut total = 0;
     let mut turns: usize = 65536;
@@ -106,8 +112,9 @@ fn further_bytes(rt: &impl Eprint, input: &mut impl Read) -> Piece
 }
 
 // Reads the text on standard input, `input`: its first bytes into `text`; those that follow are counted.
-pub fn read_text(rt: &impl Eprint, input: &mut impl Read, text: &mut [u8]) -> Input
-    ensures { CutOff (length text.new) result.len result.more }
+pub fn read_text<R: Read>(rt: &impl Eprint, input: &mut R, text: &mut [u8]) -> Input
+    ensures cut { CutOff (length text.new) result.len result.more }
+    ensures kept { result.failed ≡ false → IfSome (R.remaining input.old) (λ xs. IsKept xs text.new result.len result.more) }
 {
     let front = read_front(rt, input, text);
     if front.failed {
