@@ -1,0 +1,7 @@
+use Rattle.bodies.specs.Bodies.{body_fits}
+use borrow.Author.Rules.{rules}
+use Rattle.bodies.proofs.body_fits.Goals as goal
+
+pub returns : goal.returns
+unfolding body_fits
+returns c = simp (← c.formed.ensures, ← c.inner_op.ensures, ← c.body_at-body.ensures)

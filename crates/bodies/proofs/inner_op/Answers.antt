@@ -1,0 +1,7 @@
+use Rattle.bodies.specs.Bodies.{inner_op}
+use borrow.Author.Rules.{rules}
+use Rattle.bodies.proofs.inner_op.Goals as goal
+
+pub returns : goal.returns
+unfolding inner_op
+returns c = simp (← c.op_at.ensures, ← c.place_of.ensures)
