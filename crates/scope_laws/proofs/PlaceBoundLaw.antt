@@ -153,7 +153,8 @@ within-outlined p naming role a f h = go (in_header role) (begins_op naming role
 within-program : (p : Program) (naming : Bool) (depth : ℕ) (xs : List Reading) → Started xs → Within p.header.at → Within (program_from p naming depth xs).header.at
 unfolding program_from
 within-program p naming depth [] s f = f
-within-program p naming depth (x ∷ xs) s f = within-program _ _ (depth_after depth x.role) xs s.1 (go (eqb depth 0))
+within-program p naming depth (x ∷ xs) s f =
+    within-program (pick (eqb depth 0) (outlined p naming x.role x.token.start) p) _ (depth_after depth x.role) xs s.1 (go (eqb depth 0))
   where
     go : (b : Bool) → Within (pick b (outlined p naming x.role x.token.start) p).header.at
     go true = within-outlined p naming x.role x.token.start f s.0
