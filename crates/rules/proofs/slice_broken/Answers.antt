@@ -1,0 +1,18 @@
+use Rattle.rule_laws.proofs.Tests.{slice_tests}
+use Rattle.rule_laws.proofs.SliceLaw.{same-slice}
+use Rattle.rules.proofs.slice_broken.Goals as goal
+
+pub all_dims-c3-requires : goal.all_dims-c3-requires
+all_dims-c3-requires c = rw c.sides_of-s.ensures (record { sized = c.requires.0; few = c.requires.1 })
+
+pub all_dims-c4-requires : goal.all_dims-c4-requires
+all_dims-c4-requires c = rw c.sides_of-s.ensures (record { sized = c.requires.0; few = c.requires.1 })
+
+pub all_dims-requires : goal.all_dims-requires
+all_dims-requires c = rw c.sides_of-s.ensures (record { sized = c.requires.0; few = c.requires.1 })
+
+pub returns : goal.returns
+unfolding slice_tests
+returns c =
+    let a = c.args in
+    rw (same-slice a.x a.start a.limit a.strides a.r) (simp (c.first_broken.ensures, c.both-c5.ensures, c.all_dims.ensures, c.rank_of.ensures, c.all_dims-c4.ensures, c.all_dims-c3.ensures, c.three_of-c2.ensures, c.same_element-c1.ensures, c.sides_of-s.ensures, c.rank_of-rank.ensures))
