@@ -1,0 +1,7 @@
+use Rattle.attributes.specs.Attributes.{stands}
+use borrow.Author.Rules.{rules}
+use Rattle.attributes.proofs.stands.Goals as goal
+
+pub returns : goal.returns
+unfolding stands
+returns c = simp (← c.attributes_of.ensures, ← c.stands_at.ensures)

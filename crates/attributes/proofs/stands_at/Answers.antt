@@ -1,0 +1,35 @@
+use borrow.Author.Rules.{rules}
+use Prim.Native.Nat.{◌≤◌, ◌-◌}
+use mathlib.Core.Path.{◌≡◌, sym, ◌∙◌}
+use native.Mathlib.Omega.{arith}
+use lib.Dec.{eqb}
+use borrow.Author.Tests.{eq-eqb, ne_eqb}
+use Rattle.attributes.specs.Attributes.{attributes_of}
+use Rattle.attributes.proofs.AttributesLaw.{attributes-most, Sought, seek-none, seek-next, seek-here, seek-end}
+use Rattle.attributes.proofs.stands_at.Goals as goal
+
+pub loop-j-init : goal.loop-j-init
+loop-j-init c = (c.attributes_of-n.ensures, omega arith, let a = c.args in seek-none a.text.now a.op a.k)
+
+pub attribute_of-requires : goal.attribute_of-requires
+attribute_of-requires c = let m = attributes-most c.args.op in let q = c.loop-j.invariant.0 in omega arith
+
+pub returns-then-attribute_of-k : goal.returns-then-attribute_of-k
+returns-then-attribute_of-k c =
+    let v = c.loop-j.invariant in
+    let h = c.loop-j-test.true in
+    let a = c.args in
+    seek-here a.text.now a.op a.k c.loop-j.j v.2 (rw (← v.0) h) (rw (← c.attribute_of.ensures) (eq-eqb _ _ c.if-attribute_of-k.true))
+
+pub loop-j-preserved : goal.loop-j-preserved
+loop-j-preserved c =
+    let v = c.loop-j.invariant in
+    let h = c.loop-j-test.true in
+    let a = c.args in
+    (v.0, omega arith, seek-next a.text.now a.op a.k c.loop-j.j v.2 (rw (← v.0) h) (rw (← c.attribute_of.ensures) (ne_eqb _ _ c.if-attribute_of-k.false)))
+
+pub returns : goal.returns
+returns c =
+    let v = c.loop-j.invariant in
+    let a = c.args in
+    v.0 ∙ seek-end a.text.now a.op a.k c.loop-j.j v.2 (rw (← v.0) c.loop-j-test.false) (rw (← v.0) v.1)
