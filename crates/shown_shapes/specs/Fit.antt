@@ -1,6 +1,6 @@
 -- What an example's shapes, attributes and operands are asked, as tests that compute.
 -- Assumes nothing.
-use Rattle.std.specs.Prelude.{◌≡◌, Bool, true, false, ◌&&◌, ◌||◌, List, [], ◌∷◌, ℕ, ◌+◌, ◌-◌, leb, ltb, eqb, length, get_or}
+use Rattle.std.specs.Prelude.{◌≡◌, Bool, true, ◌&&◌, ◌||◌, List, [], ◌∷◌, ℕ, ◌+◌, ◌-◌, leb, ltb, eqb, length, get_or}
 use Rattle.lists.specs.Lists.{all_below}
 use Rattle.shape.specs.Index.{at, size, volume}
 use Rattle.shape.specs.Dims.{dims_of}

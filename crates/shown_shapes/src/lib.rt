@@ -15,23 +15,31 @@ use scalar::Body;
 use shape::Shape;
 use shown::show;
 
-pub fn iota(name: &[u8], t: ElementType, dimension: usize, to: Shape, out: &mut [u64])
+pub fn iota(
+    rt: &impl Print,
+    name: &[u8],
+    t: ElementType,
+    dimension: usize,
+    to: Shape,
+    out: &mut [u64],
+)
     requires { Fit to out.old × IsAlong dimension (dims_of to) }
     ensures { out.new ≡ counted t dimension (dims_of to) }
 {
     maps::iota(t, dimension, to, out);
-    show(name, out);
+    show(rt, name, out);
 }
 
-pub fn reshape(name: &[u8], x: &[u64], from: Shape, to: Shape, out: &mut [u64])
+pub fn reshape(rt: &impl Print, name: &[u8], x: &[u64], from: Shape, to: Shape, out: &mut [u64])
     requires { Fit from x.now × Fit to out.old × (size (dims_of from) ≡ size (dims_of to)) }
     ensures { out.new ≡ reshaped (dims_of from) (dims_of to) x.now }
 {
     maps::reshape(x, from, to, out);
-    show(name, out);
+    show(rt, name, out);
 }
 
 pub fn transpose(
+    rt: &impl Print,
     name: &[u8],
     x: &[u64],
     from: Shape,
@@ -43,10 +51,11 @@ pub fn transpose(
     ensures { out.new ≡ transposed (take from.rank permutation) (dims_of from) (dims_of to) x.now }
 {
     maps::transpose(x, from, permutation, to, out);
-    show(name, out);
+    show(rt, name, out);
 }
 
 pub fn reverse(
+    rt: &impl Print,
     name: &[u8],
     x: &[u64],
     s: Shape,
@@ -58,10 +67,11 @@ pub fn reverse(
     ensures { out.new ≡ reversed (take count dimensions) (dims_of s) x.now }
 {
     maps::reverse(x, s, dimensions, count, out);
-    show(name, out);
+    show(rt, name, out);
 }
 
 pub fn broadcast_in_dim(
+    rt: &impl Print,
     name: &[u8],
     x: &[u64],
     from: Shape,
@@ -73,10 +83,11 @@ pub fn broadcast_in_dim(
     ensures { out.new ≡ broadcasted (take from.rank dimensions) (dims_of from) (dims_of to) x.now }
 {
     maps::broadcast_in_dim(x, from, dimensions, to, out);
-    show(name, out);
+    show(rt, name, out);
 }
 
 pub fn reduce(
+    rt: &impl Print,
     name: &[u8],
     b: Body,
     t: ElementType,
@@ -92,10 +103,11 @@ pub fn reduce(
     ensures { out.new ≡ reduced b t (take count dimensions) (dims_of from) (dims_of to) start x.now }
 {
     reduction::reduce(b, t, x, from, dimensions, count, start, to, out);
-    show(name, out);
+    show(rt, name, out);
 }
 
 pub fn slice(
+    rt: &impl Print,
     name: &[u8],
     x: &[u64],
     from: Shape,
@@ -109,10 +121,11 @@ pub fn slice(
     ensures { out.new ≡ sliced (take from.rank start) (take from.rank strides) (dims_of from) (dims_of to) x.now }
 {
     maps::slice(x, from, start, limit, strides, to, out);
-    show(name, out);
+    show(rt, name, out);
 }
 
 pub fn pad(
+    rt: &impl Print,
     name: &[u8],
     x: &[u64],
     from: Shape,
@@ -126,10 +139,11 @@ pub fn pad(
     ensures { out.new ≡ padded (map number_of (take from.rank low)) (take from.rank interior) (dims_of from) (dims_of to) x.now z }
 {
     maps::pad(x, from, low, interior, z, to, out);
-    show(name, out);
+    show(rt, name, out);
 }
 
 pub fn dynamic_slice(
+    rt: &impl Print,
     name: &[u8],
     x: &[u64],
     from: Shape,
@@ -142,10 +156,11 @@ pub fn dynamic_slice(
     ensures { out.new ≡ dynamic_sliced t (take from.rank starts) (dims_of from) (dims_of to) x.now }
 {
     maps::dynamic_slice(x, from, t, starts, to, out);
-    show(name, out);
+    show(rt, name, out);
 }
 
 pub fn concatenate(
+    rt: &impl Print,
     name: &[u8],
     x: &[u64],
     dimension: usize,
@@ -159,5 +174,5 @@ pub fn concatenate(
     ensures { out.new ≡ concatenated dimension (shapes_of shapes count) (inputs_in x.now shapes places count) (dims_of to) }
 {
     maps::concatenate(x, dimension, shapes, places, count, to, out);
-    show(name, out);
+    show(rt, name, out);
 }
