@@ -5,11 +5,12 @@ use division::Division;
 use element::ElementType;
 
 // divide: 01, the four signs, and the lowest by -1
-pub fn divide_examples() {
+pub fn divide_examples(rt: &impl Print) {
     let x = [17u64, 18446744073709551599, 17, 18446744073709551599];
     let y = [3u64, 3, 18446744073709551613, 18446744073709551613];
     let mut out = [0u64; 4];
     shown_elements::division(
+        rt,
         b"divide",
         Division::Divide,
         ElementType::I32,
@@ -21,6 +22,7 @@ pub fn divide_examples() {
     let minus_one = [18446744073709551615u64];
     let mut one = [0u64; 1];
     shown_elements::division(
+        rt,
         b"divide",
         Division::Divide,
         ElementType::I8,
@@ -31,11 +33,12 @@ pub fn divide_examples() {
 }
 
 // remainder: 01, likewise
-pub fn remainder_examples() {
+pub fn remainder_examples(rt: &impl Print) {
     let x = [17u64, 18446744073709551599, 17, 18446744073709551599];
     let y = [3u64, 3, 18446744073709551613, 18446744073709551613];
     let mut out = [0u64; 4];
     shown_elements::division(
+        rt,
         b"remainder",
         Division::Remainder,
         ElementType::I32,
@@ -47,6 +50,7 @@ pub fn remainder_examples() {
     let minus_one = [18446744073709551615u64];
     let mut one = [0u64; 1];
     shown_elements::division(
+        rt,
         b"remainder",
         Division::Remainder,
         ElementType::I8,

@@ -1,0 +1,11 @@
+use mathlib.Core.Path.{refl}
+use Rattle.element.specs.Types.{is_value}
+use Rattle.quotient_examples.proofs.remainder_examples.Goals as goal
+
+pub division-requires : goal.division-requires
+unfolding is_value
+division-requires g c = ((refl, refl), (refl, refl))
+
+pub division-requires-2 : goal.division-requires-2
+unfolding is_value
+division-requires-2 g c = ((refl, refl), (refl, refl))
