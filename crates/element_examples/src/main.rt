@@ -5,29 +5,29 @@
 mod choices;
 mod unaries;
 
-fn run_unaries() {
-    unaries::abs_examples();
-    unaries::sign_examples();
-    unaries::negate_examples();
-    unaries::bit_not_examples();
-    unaries::count_leading_zeros_examples();
-    unaries::popcnt_examples();
-    unaries::convert_examples();
+fn run_unaries(rt: &impl Print) {
+    unaries::abs_examples(rt);
+    unaries::sign_examples(rt);
+    unaries::negate_examples(rt);
+    unaries::bit_not_examples(rt);
+    unaries::count_leading_zeros_examples(rt);
+    unaries::popcnt_examples(rt);
+    unaries::convert_examples(rt);
 }
 
-fn run_choices() {
-    choices::compare_examples();
-    choices::select_examples();
-    choices::clamp_examples();
+fn run_choices(rt: &impl Print) {
+    choices::compare_examples(rt);
+    choices::select_examples(rt);
+    choices::clamp_examples(rt);
 }
 
-fn run_quotients() {
-    quotient_examples::divide_examples();
-    quotient_examples::remainder_examples();
+fn run_quotients(rt: &impl Print) {
+    quotient_examples::divide_examples(rt);
+    quotient_examples::remainder_examples(rt);
 }
 
-fn main() {
-    run_unaries();
-    run_choices();
-    run_quotients();
+fn main(rt: HostRuntime) {
+    run_unaries(&rt);
+    run_choices(&rt);
+    run_quotients(&rt);
 }
