@@ -4,16 +4,16 @@
 
 mod binaries;
 
-fn main() {
-    binaries::add_examples();
-    binaries::subtract_examples();
-    binaries::multiply_examples();
-    binaries::maximum_examples();
-    binaries::minimum_examples();
-    binaries::bit_and_examples();
-    binaries::bit_or_examples();
-    binaries::bit_xor_examples();
-    binaries::shift_left_examples();
-    binaries::shift_right_arithmetic_examples();
-    binaries::shift_right_logical_examples();
+fn main(rt: HostRuntime) {
+    binaries::add_examples(&rt);
+    binaries::subtract_examples(&rt);
+    binaries::multiply_examples(&rt);
+    binaries::maximum_examples(&rt);
+    binaries::minimum_examples(&rt);
+    binaries::bit_and_examples(&rt);
+    binaries::bit_or_examples(&rt);
+    binaries::bit_xor_examples(&rt);
+    binaries::shift_left_examples(&rt);
+    binaries::shift_right_arithmetic_examples(&rt);
+    binaries::shift_right_logical_examples(&rt);
 }
