@@ -5,10 +5,11 @@ use element::ElementType;
 use shape::Shape;
 
 // slice: 01, start 1, limit 5, stride 2; 000
-pub fn slice_examples() {
+pub fn slice_examples(rt: &impl Print) {
     let x = [0u64, 1, 2, 3, 4];
     let mut out = [0u64; 2];
     shown_shapes::slice(
+        rt,
         b"slice",
         &x,
         Shape {
@@ -27,6 +28,7 @@ pub fn slice_examples() {
     let y = [0u64, 0, 0, 0, 0, 0, 1, 1, 0, 0, 1, 1];
     let mut part = [0u64; 4];
     shown_shapes::slice(
+        rt,
         b"slice",
         &y,
         Shape {
@@ -45,10 +47,11 @@ pub fn slice_examples() {
 }
 
 // pad: 01, low -1, interior 1, high 2; 000
-pub fn pad_examples() {
+pub fn pad_examples(rt: &impl Print) {
     let x = [1u64, 2, 3];
     let mut out = [7u64; 6];
     shown_shapes::pad(
+        rt,
         b"pad",
         &x,
         Shape {
@@ -67,6 +70,7 @@ pub fn pad_examples() {
     let y = [1u64, 2, 3, 4, 5, 6];
     let mut wide = [7u64; 45];
     shown_shapes::pad(
+        rt,
         b"pad",
         &y,
         Shape {
@@ -84,10 +88,11 @@ pub fn pad_examples() {
     );
 }
 
-fn start_examples() {
+fn start_examples(rt: &impl Print) {
     let x = [1650u64, 1675, 1700, 1725];
     let mut last = [0u64; 1];
     shown_shapes::dynamic_slice(
+        rt,
         b"dynamic_slice",
         &x,
         Shape {
@@ -104,6 +109,7 @@ fn start_examples() {
     );
     let mut first = [0u64; 1];
     shown_shapes::dynamic_slice(
+        rt,
         b"dynamic_slice",
         &x,
         Shape {
@@ -120,10 +126,11 @@ fn start_examples() {
     );
 }
 
-fn window_example() {
+fn window_example(rt: &impl Print) {
     let y = [0u64, 0, 1, 1, 0, 0, 1, 1, 0, 0, 0, 0, 0, 0, 0, 0];
     let mut part = [0u64; 4];
     shown_shapes::dynamic_slice(
+        rt,
         b"dynamic_slice",
         &y,
         Shape {
@@ -141,13 +148,13 @@ fn window_example() {
 }
 
 // dynamic_slice: 01, ui8 255 and i8 -1; 000, starts -1 and 3
-pub fn dynamic_slice_examples() {
-    start_examples();
-    window_example();
+pub fn dynamic_slice_examples(rt: &impl Print) {
+    start_examples(rt);
+    window_example(rt);
 }
 
 // concatenate: 000, [[1, 2], [3, 4], [5, 6]] and [[7, 8]] along dimension 0
-pub fn concatenate_examples() {
+pub fn concatenate_examples(rt: &impl Print) {
     let x = [1u64, 2, 3, 4, 5, 6, 7, 8];
     let none = Shape {
         rank: 0,
@@ -172,6 +179,7 @@ pub fn concatenate_examples() {
     let places = [0usize, 6, 0, 0, 0, 0, 0, 0];
     let mut out = [0u64; 8];
     shown_shapes::concatenate(
+        rt,
         b"concatenate",
         &x,
         0,

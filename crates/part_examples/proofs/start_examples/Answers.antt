@@ -1,0 +1,11 @@
+use mathlib.Core.Path.{refl}
+use Rattle.lists.specs.Lists.{all_below}
+use Rattle.part_examples.proofs.start_examples.Goals as goal
+
+pub dynamic_slice-requires : goal.dynamic_slice-requires
+unfolding all_below
+dynamic_slice-requires g c = ((refl, refl, refl), (refl, refl, refl), (refl, refl))
+
+pub dynamic_slice-requires-2 : goal.dynamic_slice-requires-2
+unfolding all_below
+dynamic_slice-requires-2 g c = ((refl, refl, refl), (refl, refl, refl), (refl, refl))
