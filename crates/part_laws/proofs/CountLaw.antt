@@ -105,9 +105,11 @@ keeps-anywhere p m = rule-passes (keeps anywhere) m tt
 two : {p a b : Production} (C : Production → Type 0) → p ∈ (a ∷ b ∷ []) → C a → C b → C p
 two C here x y = x
 two C (there here) x y = y
+two C (there (there m)) x y = elim m [ ]
 
 only : {p a : Production} (C : Production → Type 0) → p ∈ (a ∷ []) → C a → C p
 only C here x = x
+only C (there m) x = elim m [ ]
 
 -- the readings of an op after its name
 module _ (text : List ℕ) (s : Tally) (xs : List Reading) (each : Each text s xs) where

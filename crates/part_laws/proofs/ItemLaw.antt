@@ -59,6 +59,7 @@ module _ (item : List ℕ) (again : ℕ) (high : leaf_count ≤ again) (flat : T
       let c = rec t.second (omega arith) t.behind in
       record { count = suc c.count; items = subst (λ (l : List ℕ). Chain item (suc c.count) l) (sym w) (more c.items) }
   step n ls h rec (there here) y = record { count = 0; items = subst (λ (l : List ℕ). Chain item 0 l) (sym (nothing_left y)) none }
+  step n ls h rec (there (there m)) y = elim m [ ]
 
   chain-within : (n : ℕ) (ls : List ℕ) → length ls ≤ n → Yields (again ∷ []) ls → Chained item ls
   chain-within zero ls h d =
