@@ -11,7 +11,7 @@ use Rattle.lists.specs.Lists.{pick}
 use Rattle.text.specs.declared.Token.{Token}
 use Rattle.grammar.specs.Symbols.{ResultName, OpName, FuncReturn, OperandName, OperandType, ResultType, BodyOpen, AttributeName, SingleNumber, ListNumber, ChoiceKind, Choice, ElementLiteral, DenseOpen, DenseClose, DenseType, lparen, rparen, lbrace, rbrace, langle, rangle, comma, colon, equals, arrow, dialect, array, dense, i64, MoreResults, OpRest, Operands, MoreOperands, Middle, BodiesAfter, AttributesAfter, Body, MoreBodies, OperandTypes, MoreOperandTypes, ResultTypes, ResultTypeList, MoreResultTypes, Attributes, MoreAttributes, Value, Numbers, MoreNumbers, Dense, DenseItems, MoreItems, Op, among_symbols as member}
 use Rattle.grammar.specs.Grammar.{Production, grammar}
-use Rattle.grammar.specs.Derivation.{◌∈◌, here}
+use Rattle.grammar.specs.Derivation.{◌∈◌, here, there}
 use Rattle.grammar.specs.Leaves.{Yields}
 use Rattle.grammar.proofs.CellView.{rule-passes}
 use Rattle.grammar.proofs.TableTest.{both_left, both_right, or}
@@ -255,6 +255,7 @@ rest-parts xs d = let b = by-alternative (omega arith) d in go b.alternative mad
 
     go : {p a : Production} → p ∈ (a ∷ []) → (Yields (a.right ++ []) (roles_of xs) → RestParts xs) → Yields (p.right ++ []) (roles_of xs) → RestParts xs
     go here f y = f y
+    go (there m) f y = elim m [ ]
 
 -- the role before what follows
 abbrev last_role : ℕ → List Reading → ℕ
