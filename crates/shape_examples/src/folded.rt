@@ -4,10 +4,11 @@ use scalar::Body;
 use shape::Shape;
 
 // reduce: 000; 01: add over dimension 1, start 0
-pub fn sums_examples() {
+pub fn sums_examples(rt: &impl Print) {
     let x0 = [0u64, 1, 2, 3, 4, 5];
     let mut out0 = [0u64; 1];
     shown_shapes::reduce(
+        rt,
         b"reduce",
         Body::Add,
         ElementType::I64,
@@ -28,6 +29,7 @@ pub fn sums_examples() {
     let x1 = [1u64, 2, 3, 4, 5, 6];
     let mut out1 = [0u64; 2];
     shown_shapes::reduce(
+        rt,
         b"reduce",
         Body::Add,
         ElementType::I32,
@@ -47,10 +49,11 @@ pub fn sums_examples() {
     );
 }
 
-fn product_example() {
+fn product_example(rt: &impl Print) {
     let x = [1u64, 2, 3, 4, 5, 6];
     let mut out = [0u64; 3];
     shown_shapes::reduce(
+        rt,
         b"reduce",
         Body::Multiply,
         ElementType::I32,
@@ -70,10 +73,11 @@ fn product_example() {
     );
 }
 
-fn maximum_example() {
+fn maximum_example(rt: &impl Print) {
     let x = [1u64, 2, 3, 4, 5, 6];
     let mut out = [0u64; 2];
     shown_shapes::reduce(
+        rt,
         b"reduce",
         Body::Maximum,
         ElementType::I8,
@@ -93,10 +97,11 @@ fn maximum_example() {
     );
 }
 
-fn minimum_example() {
+fn minimum_example(rt: &impl Print) {
     let x = [1u64, 2, 3, 4, 5, 6];
     let mut out = [0u64; 2];
     shown_shapes::reduce(
+        rt,
         b"reduce",
         Body::Minimum,
         ElementType::I8,
@@ -116,10 +121,11 @@ fn minimum_example() {
     );
 }
 
-fn and_example() {
+fn and_example(rt: &impl Print) {
     let x = [1u64, 2, 3, 4, 5, 6];
     let mut out = [0u64; 1];
     shown_shapes::reduce(
+        rt,
         b"reduce",
         Body::And,
         ElementType::I32,
@@ -139,10 +145,11 @@ fn and_example() {
     );
 }
 
-fn or_example() {
+fn or_example(rt: &impl Print) {
     let x = [1u64, 2, 3, 4, 5, 6];
     let mut out = [0u64; 2];
     shown_shapes::reduce(
+        rt,
         b"reduce",
         Body::Or,
         ElementType::I32,
@@ -162,10 +169,11 @@ fn or_example() {
     );
 }
 
-fn xor_example() {
+fn xor_example(rt: &impl Print) {
     let x = [1u64, 2, 3, 4, 5, 6];
     let mut out = [0u64; 3];
     shown_shapes::reduce(
+        rt,
         b"reduce",
         Body::Xor,
         ElementType::I32,
@@ -186,11 +194,11 @@ fn xor_example() {
 }
 
 // reduce with the other bodies, from their identities (01, "Identities")
-pub fn bodies_examples() {
-    product_example();
-    maximum_example();
-    minimum_example();
-    and_example();
-    or_example();
-    xor_example();
+pub fn bodies_examples(rt: &impl Print) {
+    product_example(rt);
+    maximum_example(rt);
+    minimum_example(rt);
+    and_example(rt);
+    or_example(rt);
+    xor_example(rt);
 }

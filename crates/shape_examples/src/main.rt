@@ -4,28 +4,28 @@
 mod folded;
 mod moved;
 
-fn run_moved() {
-    moved::iota_examples();
-    moved::reshape_examples();
-    moved::transpose_examples();
-    moved::reverse_examples();
-    moved::broadcast_in_dim_examples();
+fn run_moved(rt: &impl Print) {
+    moved::iota_examples(rt);
+    moved::reshape_examples(rt);
+    moved::transpose_examples(rt);
+    moved::reverse_examples(rt);
+    moved::broadcast_in_dim_examples(rt);
 }
 
-fn run_parts() {
-    part_examples::slice_examples();
-    part_examples::pad_examples();
-    part_examples::dynamic_slice_examples();
-    part_examples::concatenate_examples();
+fn run_parts(rt: &impl Print) {
+    part_examples::slice_examples(rt);
+    part_examples::pad_examples(rt);
+    part_examples::dynamic_slice_examples(rt);
+    part_examples::concatenate_examples(rt);
 }
 
-fn run_folded() {
-    folded::sums_examples();
-    folded::bodies_examples();
+fn run_folded(rt: &impl Print) {
+    folded::sums_examples(rt);
+    folded::bodies_examples(rt);
 }
 
-fn main() {
-    run_moved();
-    run_parts();
-    run_folded();
+fn main(rt: HostRuntime) {
+    run_moved(&rt);
+    run_parts(&rt);
+    run_folded(&rt);
 }

@@ -3,9 +3,10 @@ use element::ElementType;
 use shape::Shape;
 
 // iota: 000, along 0 and along 1
-pub fn iota_examples() {
+pub fn iota_examples(rt: &impl Print) {
     let mut out0 = [0u64; 20];
     shown_shapes::iota(
+        rt,
         b"iota",
         ElementType::I32,
         0,
@@ -17,6 +18,7 @@ pub fn iota_examples() {
     );
     let mut out1 = [0u64; 20];
     shown_shapes::iota(
+        rt,
         b"iota",
         ElementType::I32,
         1,
@@ -29,10 +31,11 @@ pub fn iota_examples() {
 }
 
 // reshape: 000
-pub fn reshape_examples() {
+pub fn reshape_examples(rt: &impl Print) {
     let x = [1u64, 2, 3, 4, 5, 6];
     let mut out = [0u64; 6];
     shown_shapes::reshape(
+        rt,
         b"reshape",
         &x,
         Shape {
@@ -48,10 +51,11 @@ pub fn reshape_examples() {
 }
 
 // transpose: 000; 01, "Transposing by the inverse permutation": a permutation that is not its own inverse
-pub fn transpose_examples() {
+pub fn transpose_examples(rt: &impl Print) {
     let x0 = [1u64, 2, 3, 4, 5, 6, 7, 8, 9, 10, 11, 12];
     let mut out0 = [0u64; 12];
     shown_shapes::transpose(
+        rt,
         b"transpose",
         &x0,
         Shape {
@@ -68,6 +72,7 @@ pub fn transpose_examples() {
     let x1 = [1u64, 2, 3, 4, 5, 6, 7, 8, 9, 10, 11, 12];
     let mut out1 = [0u64; 12];
     shown_shapes::transpose(
+        rt,
         b"transpose",
         &x1,
         Shape {
@@ -84,10 +89,11 @@ pub fn transpose_examples() {
 }
 
 // reverse: 000
-pub fn reverse_examples() {
+pub fn reverse_examples(rt: &impl Print) {
     let x = [1u64, 2, 3, 4, 5, 6];
     let mut out = [0u64; 6];
     shown_shapes::reverse(
+        rt,
         b"reverse",
         &x,
         Shape {
@@ -101,10 +107,11 @@ pub fn reverse_examples() {
 }
 
 // broadcast_in_dim: 000
-pub fn broadcast_in_dim_examples() {
+pub fn broadcast_in_dim_examples(rt: &impl Print) {
     let x = [1u64, 2, 3];
     let mut out = [0u64; 12];
     shown_shapes::broadcast_in_dim(
+        rt,
         b"broadcast_in_dim",
         &x,
         Shape {
