@@ -1,0 +1,14 @@
+use Prim.Native.Nat.{◌-◌}
+use Rattle.elementwise.proofs.FillLaw.{Done, done_none, done_next, done_all}
+use Rattle.doing.specs.Doing.{start_in}
+use borrow.Author.Rules.{rules}
+use Rattle.doing.proofs.starts_of.Goals as goal
+
+pub loop-d-init : goal.loop-d-init
+loop-d-init c = done_none
+
+pub loop-d-preserved : goal.loop-d-preserved
+loop-d-preserved c = done_next _ (search rules) c.slot_at.ensures c.loop-d.invariant
+
+pub returns : goal.returns
+returns c = done_all (search rules) c.loop-d.invariant
