@@ -7,11 +7,12 @@ use scalar::{Body, Unary};
 use shape::Shape;
 
 // reduce: no elements in a row of 2x0, the start comes out twice
-fn rows_of_none() {
-    let x = given::none();
-    let start = given::one(5);
+fn rows_of_none(rt: &impl Print) {
+    let x = given::none(rt);
+    let start = given::one(rt, 5);
     let mut out = [0u64; 2];
     shown_shapes::reduce(
+        rt,
         b"reduce",
         Body::Add,
         ElementType::I32,
@@ -32,11 +33,12 @@ fn rows_of_none() {
 }
 
 // reduce: no elements at all, the start comes out once
-fn whole_of_none() {
-    let x = given::none();
-    let start = given::one(18446744073709551488);
+fn whole_of_none(rt: &impl Print) {
+    let x = given::none(rt);
+    let start = given::one(rt, 18446744073709551488);
     let mut out = [0u64; 1];
     shown_shapes::reduce(
+        rt,
         b"reduce",
         Body::Maximum,
         ElementType::I8,
@@ -57,18 +59,19 @@ fn whole_of_none() {
 }
 
 // reduce over no elements (01, "Readings to rule out")
-pub fn start_examples() {
-    rows_of_none();
-    whole_of_none();
+pub fn start_examples(rt: &impl Print) {
+    rows_of_none(rt);
+    whole_of_none(rt);
 }
 
 // negate and transpose of 2x0
-fn moved_none(x: &[u64])
+fn moved_none(rt: &impl Print, x: &[u64])
     requires { length x.now ≡ 0 }
 {
     let mut out = [0u64; 0];
-    shown_elements::unary(b"negate", Unary::Negate, ElementType::I32, x, &mut out);
+    shown_elements::unary(rt, b"negate", Unary::Negate, ElementType::I32, x, &mut out);
     shown_shapes::transpose(
+        rt,
         b"transpose",
         x,
         Shape {
@@ -85,12 +88,13 @@ fn moved_none(x: &[u64])
 }
 
 // reduce of 2x0 over dimension 0, whose result has no elements
-fn columns_of_none(x: &[u64])
+fn columns_of_none(rt: &impl Print, x: &[u64])
     requires { length x.now ≡ 0 }
 {
-    let start = given::one(5);
+    let start = given::one(rt, 5);
     let mut out = [0u64; 0];
     shown_shapes::reduce(
+        rt,
         b"reduce",
         Body::Add,
         ElementType::I32,
@@ -110,18 +114,19 @@ fn columns_of_none(x: &[u64])
     );
 }
 
-pub fn empty_examples() {
-    let x = given::none();
-    moved_none(&x);
-    columns_of_none(&x);
+pub fn empty_examples(rt: &impl Print) {
+    let x = given::none(rt);
+    moved_none(rt, &x);
+    columns_of_none(rt, &x);
 }
 
 // pad: 0 + 1 + max(0 - 1, 0) x 3 + 1 of the padding value
-pub fn pad_examples() {
-    let x = given::none();
-    let z = given::one(9);
+pub fn pad_examples(rt: &impl Print) {
+    let x = given::none(rt);
+    let z = given::one(rt, 9);
     let mut out = [0u64; 2];
     shown_shapes::pad(
+        rt,
         b"pad",
         &x,
         Shape {

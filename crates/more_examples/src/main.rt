@@ -6,12 +6,12 @@ mod empty;
 mod given;
 mod single;
 
-fn main() {
-    given::paper_examples();
-    given::other_examples();
-    single::select_examples();
-    single::clamp_examples();
-    empty::start_examples();
-    empty::empty_examples();
-    empty::pad_examples();
+fn main(rt: HostRuntime) {
+    given::paper_examples(&rt);
+    given::other_examples(&rt);
+    single::select_examples(&rt);
+    single::clamp_examples(&rt);
+    empty::start_examples(&rt);
+    empty::empty_examples(&rt);
+    empty::pad_examples(&rt);
 }
