@@ -295,7 +295,7 @@ module _ (text : List ℕ) where
   pub stand-first : {l k : ℕ} {ls ks : List ℕ} → StandFor (l ∷ ls) (k ∷ ks) → (matches l k ≡ true) × StandFor ls ks
   stand-first (allowed m t) = (m, t)
 
-  reads-follow : {ss : List ℕ} {last at : ℕ} {xs : List Reading} → Reads text last ss at xs → StandFor (roles_of xs) (kinds_of text (tokens_of xs)) → All DenseTyped xs → Follow at xs
+  reads-follow : {last : ℕ} {ss : List ℕ} {at : ℕ} {xs : List Reading} → Reads text last ss at xs → StandFor (roles_of xs) (kinds_of text (tokens_of xs)) → All DenseTyped xs → Follow at xs
   reads-follow stop t d = tt
   reads-follow (read s r) t d = let f = stand-first t in (refl, f.0, d.0, reads-follow r f.1 d.1)
 

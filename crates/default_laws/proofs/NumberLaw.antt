@@ -165,7 +165,7 @@ module _ (text : List ℕ) where
 
   -- ---- the readings of a text
 
-  reads-follow : {ss : List ℕ} {last at : ℕ} {xs : List Reading} → Reads text last ss at xs → StandFor (roles_of xs) (kinds_of text (tokens_of xs)) → All InRange xs → Follow at xs
+  reads-follow : {last : ℕ} {ss : List ℕ} {at : ℕ} {xs : List Reading} → Reads text last ss at xs → StandFor (roles_of xs) (kinds_of text (tokens_of xs)) → All InRange xs → Follow at xs
   reads-follow stop t d = tt
   reads-follow (read s r) t d = let f = stand-first text t in (refl, f.0, d.0, reads-follow r f.1 d.1)
 
