@@ -134,9 +134,11 @@ record Begins (pre ls : List ℕ) : Type 0 where
 two-of : {p a b : Production} (C : Production → Type 0) → p ∈ (a ∷ b ∷ []) → C a → C b → C p
 two-of C here x y = x
 two-of C (there here) x y = y
+two-of C (there (there m)) x y = elim m [ ]
 
 one_of : {p a : Production} (C : Production → Type 0) → p ∈ (a ∷ []) → C a → C p
 one_of C here x = x
+one_of C (there m) x = elim m [ ]
 
 -- fewer arguments
 fewer : (pre ls : List ℕ) (n : ℕ) → T (leaves pre) → ((ms : List ℕ) → inner input_name 0 (pre ++ ms) ≡ n + inner input_name 1 ms) → Yields (pre ++ (BodyOps ∷ BodyClose ∷ [])) ls → inner input_name 0 ls ≡ n
