@@ -19,7 +19,7 @@ use Rattle.nodes.proofs.AcceptedLaw.{accepted-elements, returns-defined}
 use Rattle.laid.specs.Laid.{Laid, laid, written}
 use Rattle.results.specs.Results.{line_at, line_of, first_lines}
 use Rattle.results.proofs.ResultsLaw.{lines_none, lines_next, lines-all, line_small, front_length, front-end, written_next}
-use Rattle.result_lines.specs.ResultLines.{return_of, result_lines}
+use Rattle.result_lines.specs.ResultLines.{result_lines}
 
 values-counted : (text : List ℕ) (p : Program) → (values_in text p).inputs + ops_of p ≡ (values_in text p).count
 unfolding values_in
