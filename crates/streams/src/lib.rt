@@ -7,7 +7,9 @@ ghost use Rattle.streams.specs.Cut.{CutOff};
 ghost use Rattle.streams.specs.Known.{Took, TookCount, IsKept};
 ghost use Rattle.streams.specs.Pieces.{piece_of};
 
+use arrayvec::ArrayString;
 use std::env::{Env, FillError};
+use std::fmt::Write as _;
 use std::io;
 use std::io::{Read, Write};
 
@@ -24,6 +26,22 @@ pub struct Input {
     pub failed: bool,
     pub len: usize,
     pub more: usize,
+}
+
+// The system's own words for an error: what std writes of it, without its number.
+fn words_of(text: &str) -> &str {
+    match text.split_once(" (os error ") {
+        Some((words, _)) => words,
+        None => text,
+    }
+}
+
+// One line on standard error, of the stream and the error.
+fn tell(rt: &impl Eprint, stream: &str, error: &io::Error) {
+    let mut text = ArrayString::<320>::new();
+    let _ = write!(text, "{error}");
+    let words = words_of(text.as_str());
+    let _ = rt.eprintln(format_args!("{stream}: {words}"));
 }
 
 // What a read into `buf` gave, by its answer.
@@ -49,7 +67,7 @@ fn read_once<R: Read>(rt: &impl Eprint, input: &mut R, buf: &mut [u8]) -> Piece
 {
     let got = input.read(buf);
     if let Err(e) = &got {
-        let _ = rt.eprintln(format_args!("standard input: {e}"));
+        tell(rt, "standard input", e);
     }
     piece_of(&got, buf)
 }
@@ -143,7 +161,7 @@ pub fn read_text<R: Read>(rt: &impl Eprint, input: &mut R, text: &mut [u8]) -> I
 // Writes all bytes to standard output, `output`.
 pub fn write_text(rt: &impl Eprint, output: &mut impl Write, bytes: &[u8]) {
     if let Err(e) = output.write_all(bytes) {
-        let _ = rt.eprintln(format_args!("standard output: {e}"));
+        tell(rt, "standard output", &e);
     }
 }
 
