@@ -93,7 +93,6 @@ pub fn texts() -> Vec<(String, Vec<u8>)> {
         ("many results".into(), repeated(HEADER, "%a,", "")),
         ("many numbers".into(), repeated(&format!("{HEADER}\"stablehlo.slice\"() {{strides = array<i64: "), "1,", "")),
         ("many attributes".into(), repeated(&format!("{HEADER}\"stablehlo.slice\"() {{"), "dimension = 0 : i64, ", "")),
-        ("many names in one body".into(), many_names(65536)),
         ("empty".into(), Vec::new()),
     ];
     for byte in 0..=255u8 {
