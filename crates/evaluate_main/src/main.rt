@@ -10,22 +10,22 @@ use result_lines::Lines;
 use streams::{no_arguments, read_text, write_text};
 
 // Reads the text, evaluates it and writes what is printed: `text` and `out` are lent for it.
-fn run(text: &mut [u8], out: &mut [u8])
+fn run(rt: &HostRuntime, text: &mut [u8], out: &mut [u8])
     requires { (length text.old ≡ 65537) × (1600008 ≤ length out.old) }
 {
-    let t = read_text(text);
+    let t = read_text(rt, &mut rt.stdin(), text);
     if t.failed {
         return;
     }
     let n = t.len;
     let r = print_output(&text[..n], t.more, out);
-    write_text(&out[..r]);
+    write_text(rt, &mut rt.stdout(), &out[..r]);
 }
 
-fn main() {
-    if no_arguments() {
+fn main(rt: HostRuntime) {
+    if no_arguments(&rt) {
         let mut text = [0u8; Limits::TEXT + 1];
         let mut out = [0u8; Lines::MOST];
-        run(&mut text, &mut out);
+        run(&rt, &mut text, &mut out);
     }
 }

@@ -1,0 +1,20 @@
+-- What is printed lies within the bytes lent for it.
+use Rattle.std.proofs.Common.{sym, ◌++◌, take, replicate, length-take-le}
+use Rattle.std.proofs.lemmas.List.{length-replicate}
+use Rattle.program_output.specs.Output.{output_of}
+use Rattle.results.proofs.ResultsLaw.{front_bytes}
+use Rattle.evaluate_main.proofs.run.Goals as goal
+
+pub slice_bounds-write_text-end : goal.slice_bounds-write_text-end
+slice_bounds-write_text-end c =
+    let t = c.read_text-t in
+    let more = t.result.more in
+    (front_bytes (output_of (take t.result.len t.new.text ++ replicate more 0)) _ _ c.args.out.now
+    (c.print_output-r.ensures (replicate more 0) (length-replicate more 0))).0
+
+pub slice_bounds-write_text-end-2 : goal.slice_bounds-write_text-end-2
+slice_bounds-write_text-end-2 c =
+    let t = c.read_text-t in
+    let more = t.result.more in
+    sym (length-take-le c.print_output-r.result _ (front_bytes (output_of (take t.result.len t.new.text ++ replicate more 0)) _ _ c.args.out.now
+    (c.print_output-r.ensures (replicate more 0) (length-replicate more 0))).0)
