@@ -1,6 +1,5 @@
 use borrow.Author.Tests.{lt-ltb, le-ltb}
 use Rattle.laid.specs.Laid.{put}
-use borrow.Author.Rules.{rules}
 use Rattle.laid.proofs.put_byte.Goals as goal
 
 pub returns-then-place-out : goal.returns-then-place-out
