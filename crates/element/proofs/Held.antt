@@ -8,7 +8,6 @@ use native.Mathlib.Omega.{arith}
 use lib.Pow.{pow_pos, pow_mono}
 use lib.IntN.{ℤ, pos, negsuc, neg_ℤ, nat_abs}
 use lib.Signed.{lt_z}
-use borrow.Author.Tests.{le-leb, lt-leb}
 use Rattle.element.specs.Types.{width_of, signed_of, highest_of, lowest_of, slot_of, slot_for, value_of, SlotHolds}
 use Rattle.element.specs.declared.ElementType.{ElementType}
 use Rattle.element.proofs.Slots.{sized}

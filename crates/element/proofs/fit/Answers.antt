@@ -1,5 +1,4 @@
 use mathlib.Core.Path.{sym, ◌∙◌}
-use borrow.Author.Rules.{rules}
 use Rattle.element.proofs.Slots.{fit-high-fits, fit-high, fit_low, fit-unsigned}
 use Rattle.element.proofs.fit.Goals as goal
 

@@ -1,6 +1,5 @@
 use mathlib.Core.Path.{sym, ◌∙◌}
 use Rattle.element.proofs.Signed.{negative-is}
-use borrow.Author.Rules.{rules}
 use Rattle.element.proofs.is_negative.Goals as goal
 
 pub returns-then-is_signed : goal.returns-then-is_signed

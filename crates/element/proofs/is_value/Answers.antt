@@ -1,5 +1,4 @@
 use mathlib.Core.Path.{sym, ◌∙◌}
-use borrow.Author.Rules.{rules}
 use Rattle.element.proofs.Range.{low_value, signed_test, unsigned-test}
 use Rattle.element.proofs.is_value.Goals as goal
 

@@ -1,6 +1,5 @@
 use mathlib.Core.Path.{sym, ◌∙◌}
 use native.Mathlib.Omega.{arith}
-use borrow.Author.Rules.{rules}
 use Rattle.element.proofs.Signed.{value-negative}
 use Rattle.element.proofs.Held.{magnitude-negative, magnitude-plain}
 use Rattle.element.proofs.magnitude.Goals as goal

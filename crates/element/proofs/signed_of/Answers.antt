@@ -1,5 +1,4 @@
 use Rattle.element.proofs.Signed.{signed_low, signed_high, signed-high-fits}
-use borrow.Author.Rules.{rules}
 use Rattle.element.proofs.signed_of.Goals as goal
 
 pub overflow_sub-result-else-s-lt9223372036854775808 : goal.overflow_sub-result-else-s-lt9223372036854775808

@@ -1,5 +1,4 @@
 use native.Mathlib.Omega.{arith}
-use borrow.Author.Rules.{rules}
 use Rattle.element.proofs.Held.{slot-plus, slot-minus, slot-none}
 use Rattle.element.proofs.slot_for.Goals as goal
 

@@ -1,5 +1,4 @@
 use mathlib.Core.Path.{sym, ◌∙◌}
-use borrow.Author.Rules.{rules}
 use Rattle.element.proofs.ElementType.all.Goals as goal
 
 pub returns-then-is_signed : goal.returns-then-is_signed

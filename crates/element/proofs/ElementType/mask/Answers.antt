@@ -1,4 +1,3 @@
-use borrow.Author.Rules.{rules}
 use Rattle.element.proofs.ElementType.mask.Goals as goal
 
 pub returns-in-I1 : goal.returns-in-I1
