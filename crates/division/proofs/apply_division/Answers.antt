@@ -1,6 +1,5 @@
 use mathlib.Core.Path.{sym, ap, ◌∙◌}
 use Prim.Native.Nat.{ℕ}
-use borrow.Author.Rules.{rules}
 use borrow.Author.Tests.{eq-eqb, ne_eqb}
 use Rattle.division.specs.Division.{division_of}
 use Rattle.division.proofs.Dispatch.{unsigned-quotient, unsigned-remainder}

@@ -1,5 +1,4 @@
 use mathlib.Core.Path.{◌∙◌}
-use borrow.Author.Rules.{rules}
 use lib.Signed.{rem_z}
 use mir.Syntax.{w32}
 use Rattle.division.specs.Division.{quotient_of}

@@ -1,5 +1,4 @@
 use mathlib.Core.Path.{sym, ap₂, ◌∙◌}
-use borrow.Author.Rules.{rules}
 use lib.Signed.{rem_z}
 use mir.Syntax.{w64}
 use mir.Facts.{to_z-of_z}
