@@ -6,7 +6,7 @@ use Rattle.element.specs.Types.{slot_of, value_of, wrap_to, slot_for}
 use Rattle.element.specs.declared.ElementType.TheVariants.{I1, I8, I16, I32, I64, U8, U16, U64}
 use Rattle.scalar.specs.Ops.{unary_of, binary_of, compare_of, clamp_of, select_of, convert_of, iota_of, add_of, subtract_of, multiply_of, negate_of, sign_of, lt_of, maximum_of, minimum_of, not_of, count_leading_zeros_of, popcnt_of, shift_left_of, shift_right_arithmetic_of, shift_right_logical_of}
 use Rattle.scalar.specs.declared.Unary.TheVariants.{Negate, Sign, Not, CountLeadingZeros, Popcnt}
-use Rattle.scalar.specs.declared.Binary.TheVariants.{Add, Subtract, Multiply, Maximum, Minimum, Or, Xor, ShiftLeft, ShiftRightArithmetic, ShiftRightLogical}
+use Rattle.scalar.specs.declared.Binary.TheVariants.{Subtract, Multiply, Maximum, Minimum, Or, Xor, ShiftLeft, ShiftRightArithmetic, ShiftRightLogical}
 use Rattle.scalar.specs.declared.Direction.TheVariants.{Eq, Ne, Ge, Gt, Le, Lt}
 
 record Row : Type 0 where

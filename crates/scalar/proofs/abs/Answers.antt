@@ -1,4 +1,4 @@
-use Rattle.std.proofs.Common.{sym, ◌∙◌, arith, rules}
+use Rattle.std.proofs.Common.{sym, ◌∙◌, arith}
 use Rattle.element.proofs.Signed.{value-negative}
 use Rattle.scalar.proofs.Shift.{abs-plain, abs-least, abs-negative}
 use Rattle.scalar.proofs.abs.Goals as goal

@@ -1,4 +1,4 @@
-use Rattle.std.proofs.Common.{sym, ◌∙◌, rules}
+use Rattle.std.proofs.Common.{sym, ◌∙◌}
 use Rattle.scalar.specs.Ops.{add_of}
 use Rattle.element.proofs.Slots.{sum-slot}
 use Rattle.scalar.proofs.add.Goals as goal

@@ -1,4 +1,3 @@
-use Rattle.std.proofs.Common.{rules}
 use Rattle.scalar.proofs.apply_unary.Goals as goal
 
 pub returns-in-Negate : goal.returns-in-Negate

@@ -1,4 +1,4 @@
-use Rattle.std.proofs.Common.{◌∙◌, rules}
+use Rattle.std.proofs.Common.{◌∙◌}
 use Rattle.scalar.specs.Ops.{clamp_of}
 use Rattle.scalar.proofs.clamp.Goals as goal
 

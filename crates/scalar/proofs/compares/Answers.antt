@@ -1,4 +1,4 @@
-use Rattle.std.proofs.Common.{not, ap, rules}
+use Rattle.std.proofs.Common.{not, ap}
 use Rattle.scalar.proofs.compares.Goals as goal
 
 pub returns-in-Eq : goal.returns-in-Eq

@@ -1,4 +1,4 @@
-use Rattle.std.proofs.Common.{sym, ◌∙◌, rules, eq-eqb, ne_eqb}
+use Rattle.std.proofs.Common.{sym, ◌∙◌, eq-eqb, ne_eqb}
 use Rattle.scalar.specs.Ops.{convert_of}
 use Rattle.element.proofs.Slots.{value-slot}
 use Rattle.scalar.proofs.convert.Goals as goal

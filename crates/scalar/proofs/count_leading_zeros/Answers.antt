@@ -1,4 +1,4 @@
-use Rattle.std.proofs.Common.{◌%◌, ◌^◌, lt_of_le_of_lt, mod-lt, arith, lit<, pow_pos, rules}
+use Rattle.std.proofs.Common.{◌%◌, ◌^◌, lt_of_le_of_lt, mod-lt, arith, lit<, pow_pos}
 use Rattle.element.specs.Types.{width_of}
 use lib.Count.{leading_le}
 use Rattle.scalar.specs.Ops.{count_leading_zeros_of}

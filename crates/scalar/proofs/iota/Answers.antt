@@ -1,4 +1,3 @@
-use Rattle.std.proofs.Common.{rules}
 use Rattle.scalar.specs.Ops.{iota_of}
 use Rattle.scalar.proofs.iota.Goals as goal
 

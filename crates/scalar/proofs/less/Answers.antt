@@ -1,4 +1,4 @@
-use Rattle.std.proofs.Common.{sym, ◌∙◌, ap₂, to_z-of_z, w64, SFits, rules}
+use Rattle.std.proofs.Common.{sym, ◌∙◌, ap₂, to_z-of_z, w64, SFits}
 use lib.Signed.{lt_z}
 use Rattle.scalar.specs.Ops.{lt_of}
 use Rattle.element.proofs.Signed.{value-signed, value-unsigned}

@@ -1,4 +1,4 @@
-use Rattle.std.proofs.Common.{sym, ◌∙◌, rules}
+use Rattle.std.proofs.Common.{sym, ◌∙◌}
 use Rattle.scalar.specs.Ops.{multiply_of}
 use Rattle.element.proofs.Slots.{product-slot}
 use Rattle.scalar.proofs.multiply.Goals as goal

@@ -1,4 +1,4 @@
-use Rattle.std.proofs.Common.{sym, ◌∙◌, rules}
+use Rattle.std.proofs.Common.{sym, ◌∙◌}
 use Rattle.scalar.specs.Ops.{negate_of}
 use Rattle.element.proofs.Slots.{negation-slot}
 use Rattle.scalar.proofs.negate.Goals as goal

@@ -1,4 +1,3 @@
-use Rattle.std.proofs.Common.{rules}
 use Rattle.scalar.specs.Ops.{not_of}
 use Rattle.scalar.proofs.not.Goals as goal
 

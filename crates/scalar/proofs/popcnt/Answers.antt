@@ -1,6 +1,6 @@
 use Rattle.scalar.proofs.Shift.{ones_low}
 use Rattle.element.specs.Types.{width_of}
-use Rattle.std.proofs.Common.{sym, lt_of_le_of_lt, arith, rules}
+use Rattle.std.proofs.Common.{sym, lt_of_le_of_lt, arith}
 use lib.Bits.{and_le_l}
 use lib.Count.{ones-le}
 use Rattle.scalar.specs.Ops.{popcnt_of}

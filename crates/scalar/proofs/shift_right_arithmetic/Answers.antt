@@ -1,4 +1,4 @@
-use Rattle.std.proofs.Common.{sym, ◌∙◌, le_trans, div-le_self, arith, rules}
+use Rattle.std.proofs.Common.{sym, ◌∙◌, le_trans, div-le_self, arith}
 use Rattle.element.proofs.Slots.{sized}
 use Rattle.scalar.proofs.Shift.{sra-low, sra-low-out, sra-plain, sra-plain-out}
 use Rattle.scalar.proofs.shift_right_arithmetic.Goals as goal

@@ -1,4 +1,4 @@
-use Rattle.std.proofs.Common.{◌∙◌, arith, rules}
+use Rattle.std.proofs.Common.{◌∙◌, arith}
 use Rattle.element.proofs.Slots.{sized}
 use Rattle.scalar.proofs.Shift.{srl-in, srl-out}
 use Rattle.scalar.proofs.shift_right_logical.Goals as goal

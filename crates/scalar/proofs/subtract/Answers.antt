@@ -1,4 +1,4 @@
-use Rattle.std.proofs.Common.{sym, ◌∙◌, rules}
+use Rattle.std.proofs.Common.{sym, ◌∙◌}
 use Rattle.scalar.specs.Ops.{subtract_of}
 use Rattle.element.proofs.Slots.{difference-slot}
 use Rattle.scalar.proofs.subtract.Goals as goal

@@ -1,4 +1,4 @@
-use Rattle.std.proofs.Common.{◌∙◌, arith, lit<, rules}
+use Rattle.std.proofs.Common.{◌∙◌, arith, lit<}
 use Rattle.element.proofs.Mod.{below, product-digits}
 use Rattle.scalar.proofs.wrapping_mul.Goals as goal
 
