@@ -6,7 +6,6 @@ use Rattle.shape.specs.Index.{Within}
 use Rattle.shape.specs.Dims.{dims_of}
 use Rattle.shape.proofs.IndexLaw.{ravel-lt}
 use Rattle.shape.proofs.ElementLaw.{is_within-true}
-use borrow.Author.Rules.{rules}
 use Rattle.shape.proofs.element_at.Goals as goal
 
 pub position-p-requires : goal.position-p-requires

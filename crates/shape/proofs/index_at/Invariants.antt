@@ -1,17 +1,9 @@
-use Prim.Native.Nat.{ℕ, ◌≤◌, ◌<◌, ◌-◌}
-use mathlib.Core.Path.{◌≡◌, ◌∙◌, refl}
-use mathlib.Core.List.{List, ◌++◌}
-use native.Mathlib.Omega.{arith}
-use native.Mathlib.Nat.{mod-lt}
+use Prim.Native.Nat.{◌≤◌, ◌<◌, ◌-◌}
+use mathlib.Core.Path.{◌≡◌}
+use mathlib.Core.List.{◌++◌}
 use lib.ListN.{length, take, drop, get_or, replicate}
-use lib.Seq.{length-take-le}
 use Rattle.lists.specs.Lists.{tab}
-use Rattle.lists.proofs.TabLaw.{fill_step, tab-get_or}
 use Rattle.shape.specs.Index.{size, unravel, rest}
-use Rattle.shape.specs.Dims.{dims_of}
-use Rattle.shape.proofs.IndexLaw.{factors-pos, length-unravel}
-use Rattle.shape.proofs.DimensionLaw.{rest-cons, unravel-turn}
-use borrow.Author.Rules.{rules}
 use Rattle.shape.proofs.index_at.Given as goal
 
 abbrev pub invariant-loop-d : goal.invariant-loop-d

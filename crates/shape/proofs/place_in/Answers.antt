@@ -1,12 +1,10 @@
-use Prim.Native.Nat.{◌≤◌, ◌-◌}
 use mathlib.Core.Path.{◌≡◌}
 use native.Mathlib.Omega.{arith}
 use lib.ListN.{length, take}
 use lib.Seq.{get_or-take, length-take-le}
-use lib.Dec.{eqb}
 use borrow.Author.Tests.{eq-eqb, ne_eqb}
 use borrow.Author.Rules.{rules}
-use Rattle.lists.proofs.SearchLaw.{Passed, passed_none, passed_here, passed-next, passed-end}
+use Rattle.lists.proofs.SearchLaw.{passed_none, passed_here, passed-next, passed-end}
 use Rattle.shape.proofs.place_in.Goals as goal
 
 pub loop-p-init : goal.loop-p-init

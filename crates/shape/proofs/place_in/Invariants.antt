@@ -1,12 +1,8 @@
 use Prim.Native.Nat.{◌≤◌, ◌-◌}
 use mathlib.Core.Path.{◌≡◌}
-use native.Mathlib.Omega.{arith}
 use lib.ListN.{length, take}
-use lib.Seq.{get_or-take, length-take-le}
 use lib.Dec.{eqb}
-use borrow.Author.Tests.{eq-eqb, ne_eqb}
-use borrow.Author.Rules.{rules}
-use Rattle.lists.proofs.SearchLaw.{Passed, passed_none, passed_here, passed-next, passed-end}
+use Rattle.lists.proofs.SearchLaw.{Passed}
 use Rattle.shape.proofs.place_in.Given as goal
 
 abbrev pub invariant-loop-p : goal.invariant-loop-p

@@ -1,13 +1,7 @@
 use Prim.Native.Nat.{◌≤◌, ◌*◌, ◌-◌, ◌+◌}
 use mathlib.Core.Path.{◌≡◌}
-use native.Mathlib.Omega.{arith}
-use native.Mathlib.Nat.{zero-mul, zero-add}
 use lib.ListN.{length, take, drop}
 use Rattle.shape.specs.Index.{size, ravel, rest}
-use Rattle.shape.specs.Dims.{dims_of}
-use Rattle.shape.proofs.IndexLaw.{ravel-lt, size-le-volume, within-drop}
-use Rattle.shape.proofs.DimensionLaw.{drop-next, rest-cons, rest_all, ravel-turn}
-use borrow.Author.Rules.{rules}
 use Rattle.shape.proofs.position.Given as goal
 
 abbrev pub invariant-loop-d : goal.invariant-loop-d

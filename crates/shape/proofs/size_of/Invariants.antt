@@ -1,11 +1,7 @@
 use Prim.Native.Nat.{◌≤◌, ◌*◌, ◌-◌}
 use mathlib.Core.Path.{◌≡◌}
-use native.Mathlib.Omega.{arith}
-use native.Mathlib.Nat.{one-mul}
 use lib.ListN.{length, take}
 use Rattle.shape.specs.Index.{size, volume, rest}
-use Rattle.shape.proofs.DimensionLaw.{rest-cons, rest_all, size-turn}
-use borrow.Author.Rules.{rules}
 use Rattle.shape.proofs.size_of.Given as goal
 
 abbrev pub invariant-loop-d : goal.invariant-loop-d

@@ -1,9 +1,7 @@
-use Prim.Native.Nat.{◌≤◌, ◌*◌, ◌-◌, min}
 use mathlib.Core.Path.{◌≡◌}
 use native.Mathlib.Omega.{arith}
 use native.Mathlib.Nat.{one-mul}
-use lib.ListN.{length, take}
-use Rattle.shape.specs.Index.{volume, rest}
+use lib.ListN.{length}
 use Rattle.shape.proofs.DimensionLaw.{rest-cons, rest_all, volume-turn}
 use borrow.Author.Rules.{rules}
 use Rattle.shape.proofs.volume_of.Goals as goal

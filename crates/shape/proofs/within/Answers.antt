@@ -1,8 +1,6 @@
-use Prim.Native.Nat.{◌≤◌, ◌-◌}
 use mathlib.Core.Path.{◌≡◌, refl}
 use native.Mathlib.Omega.{arith}
-use lib.ListN.{length, take, drop}
-use Rattle.shape.specs.Index.{rest, is_within}
+use lib.ListN.{length}
 use Rattle.shape.proofs.DimensionLaw.{rest-cons, rest_all, is_within-turn}
 use borrow.Author.Tests.{lt-ltb, le-ltb}
 use borrow.Author.Rules.{rules}

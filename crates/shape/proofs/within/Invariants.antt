@@ -1,11 +1,7 @@
 use Prim.Native.Nat.{◌≤◌, ◌-◌}
-use mathlib.Core.Path.{◌≡◌, refl}
-use native.Mathlib.Omega.{arith}
+use mathlib.Core.Path.{◌≡◌}
 use lib.ListN.{length, take, drop}
 use Rattle.shape.specs.Index.{rest, is_within}
-use Rattle.shape.proofs.DimensionLaw.{rest-cons, rest_all, is_within-turn}
-use borrow.Author.Tests.{lt-ltb, le-ltb}
-use borrow.Author.Rules.{rules}
 use Rattle.shape.proofs.within.Given as goal
 
 abbrev pub invariant-loop-d : goal.invariant-loop-d
