@@ -1,13 +1,12 @@
 -- The ops that take each element of the result from an index of the operand, by 000's formulas (01, "Shape by shape").
 -- Attribute numbers are whole numbers: in ℕ where a constraint says 0 <= .., else, of edge_padding_low, in ℤ.
 -- Assumes nothing.
-use Rattle.std.specs.Prelude.{List, true, ℕ, ◌+◌, ◌*◌, ◌-◌, ◌/◌, ◌%◌, min, length, get_or, ltb, eqb, ℤ, pos, negsuc, ◌-ℤ◌}
+use Rattle.std.specs.Prelude.{List, ℕ, ◌+◌, ◌*◌, ◌-◌, ◌/◌, ◌%◌, min, length, get_or, ltb, eqb, ℤ, pos, negsuc, ◌-ℤ◌}
 use Rattle.lists.specs.Lists.{pick, tab}
 use Rattle.element.specs.Types.{value_of, wrap_to}
 use Rattle.element.specs.declared.ElementType.{ElementType}
 use Rattle.shape.specs.Index.{at, ravel, unravel, tabulate, element_at}
 use Rattle.shape.specs.Place.{place_in}
-use Rattle.shape.specs.Whole.{number_of}
 
 -- "result[result_index] = operand[operand_index]", operand_index[d] by a formula of result_index and d; z where that is no index of the operand
 abbrev pub gathered : ((ℕ → ℕ) → ℕ → ℕ) → List ℕ → List ℕ → List ℕ → ℕ → List ℕ

@@ -1,7 +1,6 @@
 use mathlib.Core.Path.{◌∙◌}
 use Rattle.shape.specs.Dims.{dims_of}
 use Rattle.maps.proofs.AttributeLaw.{dims-le, broadcast-take}
-use borrow.Author.Rules.{rules}
 use Rattle.maps.proofs.broadcast_in_dim.Goals as goal
 
 pub returns : goal.returns

@@ -4,7 +4,6 @@ use native.Mathlib.Omega.{arith}
 use lib.IntN.{nat_abs}
 use Rattle.element.specs.Types.{value_of}
 use Rattle.maps.proofs.SliceLaw.{clamp-negative, clamp-other}
-use borrow.Author.Rules.{rules}
 use Rattle.maps.proofs.clamp_start.Goals as goal
 
 pub returns-then-is_negative : goal.returns-then-is_negative

@@ -10,7 +10,6 @@ use Rattle.shape.proofs.IndexLaw.{length-unravel, at-six}
 use Rattle.maps.specs.Concatenation.{concat_from, concat_at, shapes_of, inputs_in}
 use Rattle.maps.proofs.AttributeLaw.{dims-le}
 use Rattle.maps.proofs.ConcatLaw.{concat-front}
-use borrow.Author.Rules.{rules}
 use Rattle.maps.proofs.concat_at.Goals as goal
 
 pub concat_element-requires : goal.concat_element-requires

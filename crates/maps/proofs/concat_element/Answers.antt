@@ -8,9 +8,8 @@ use Rattle.lists.specs.Lists.{tab}
 use Rattle.shape.specs.Index.{at, size, element_at}
 use Rattle.shape.specs.Dims.{dims_of}
 use Rattle.shape.specs.declared.Shape.{Shape}
-use Rattle.maps.specs.Concatenation.{concat_from, concat_at, no_shape, shapes_of, inputs_in}
+use Rattle.maps.specs.Concatenation.{concat_from, no_shape}
 use Rattle.maps.proofs.ConcatLaw.{concat-here, concat-next, concat-end}
-use borrow.Author.Rules.{rules}
 use Rattle.maps.proofs.concat_element.Goals as goal
 
 pub loop-j-init : goal.loop-j-init

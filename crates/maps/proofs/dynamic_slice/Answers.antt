@@ -9,7 +9,6 @@ use Rattle.shape.proofs.IndexLaw.{dim-le-volume}
 use Rattle.maps.specs.Formulas.{slice_index, sliced}
 use Rattle.maps.proofs.AttributeLaw.{dims-le}
 use Rattle.maps.proofs.SliceLaw.{dynamic-below, adjusted-index, adjusted-sliced}
-use borrow.Author.Rules.{rules}
 use Rattle.maps.proofs.dynamic_slice.Goals as goal
 
 pub map_into-requires : goal.map_into-requires

@@ -1,4 +1,4 @@
-use Prim.Native.Nat.{ℕ, ◌≤◌, ◌-◌, ◌+◌}
+use Prim.Native.Nat.{ℕ}
 use mathlib.Core.Path.{◌≡◌, ◌∙◌, ap, refl}
 use mathlib.Core.List.{List, ◌++◌}
 use native.Mathlib.Omega.{arith}
@@ -10,7 +10,6 @@ use Rattle.element.specs.Types.{wrap_to}
 use Rattle.shape.specs.Index.{at, size, unravel}
 use Rattle.shape.specs.Dims.{dims_of}
 use Rattle.maps.proofs.AttributeLaw.{dims-le}
-use borrow.Author.Rules.{rules}
 use Rattle.maps.proofs.iota.Goals as goal
 
 pub loop-k-init : goal.loop-k-init

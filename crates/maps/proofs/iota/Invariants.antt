@@ -1,16 +1,12 @@
-use Prim.Native.Nat.{ℕ, ◌≤◌, ◌-◌, ◌+◌}
-use mathlib.Core.Path.{◌≡◌, ◌∙◌, ap, refl}
-use mathlib.Core.List.{List, ◌++◌}
-use native.Mathlib.Omega.{arith}
-use lib.ListN.{length, drop, set}
+use Prim.Native.Nat.{◌≤◌, ◌-◌}
+use mathlib.Core.Path.{◌≡◌}
+use mathlib.Core.List.{◌++◌}
+use lib.ListN.{drop}
 use lib.IntN.{pos}
 use Rattle.lists.specs.Lists.{tab}
-use Rattle.lists.proofs.TabLaw.{fill_step, length-fill, fill-whole}
 use Rattle.element.specs.Types.{wrap_to}
-use Rattle.shape.specs.Index.{at, size, unravel}
+use Rattle.shape.specs.Index.{at, unravel}
 use Rattle.shape.specs.Dims.{dims_of}
-use Rattle.maps.proofs.AttributeLaw.{dims-le}
-use borrow.Author.Rules.{rules}
 use Rattle.maps.proofs.iota.Given as goal
 
 abbrev pub invariant-loop-k : goal.invariant-loop-k

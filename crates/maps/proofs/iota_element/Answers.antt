@@ -5,7 +5,6 @@ use Rattle.element.specs.Types.{wrap_to}
 use Rattle.shape.specs.Index.{at, unravel}
 use Rattle.shape.specs.Dims.{dims_of}
 use Rattle.shape.proofs.IndexLaw.{at-six}
-use borrow.Author.Rules.{rules}
 use Rattle.maps.proofs.iota_element.Goals as goal
 
 pub returns : goal.returns

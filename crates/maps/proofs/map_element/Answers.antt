@@ -8,7 +8,6 @@ use Rattle.shape.specs.Dims.{dims_of}
 use Rattle.shape.proofs.IndexLaw.{at-six, within-unravel}
 use Rattle.shape.proofs.ElementLaw.{element_at-front}
 use Rattle.maps.specs.Kinds.{operand_index, coord_of, MapReady}
-use borrow.Author.Rules.{rules}
 use Rattle.maps.proofs.map_element.Goals as goal
 
 pub operand_index-j-requires : goal.operand_index-j-requires

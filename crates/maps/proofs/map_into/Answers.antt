@@ -1,4 +1,4 @@
-use Prim.Native.Nat.{ℕ, ◌≤◌, ◌-◌, ◌+◌}
+use Prim.Native.Nat.{ℕ}
 use mathlib.Core.Path.{◌≡◌, ◌∙◌, ap, refl}
 use mathlib.Core.List.{List, ◌++◌}
 use native.Mathlib.Omega.{arith}
@@ -8,7 +8,6 @@ use Rattle.lists.proofs.TabLaw.{fill_step, length-fill, fill-whole}
 use Rattle.shape.specs.Index.{size, unravel}
 use Rattle.shape.specs.Dims.{dims_of}
 use Rattle.maps.specs.Kinds.{mapped_at}
-use borrow.Author.Rules.{rules}
 use Rattle.maps.proofs.map_into.Goals as goal
 
 pub loop-k-init : goal.loop-k-init

@@ -1,14 +1,11 @@
-use Prim.Native.Nat.{ℕ, ◌≤◌, ◌-◌, ◌+◌}
-use mathlib.Core.Path.{◌≡◌, ◌∙◌, ap, refl}
-use mathlib.Core.List.{List, ◌++◌}
-use native.Mathlib.Omega.{arith}
-use lib.ListN.{length, drop, set}
+use Prim.Native.Nat.{◌≤◌, ◌-◌}
+use mathlib.Core.Path.{◌≡◌}
+use mathlib.Core.List.{◌++◌}
+use lib.ListN.{drop}
 use Rattle.lists.specs.Lists.{tab}
-use Rattle.lists.proofs.TabLaw.{fill_step, length-fill, fill-whole}
-use Rattle.shape.specs.Index.{size, unravel}
+use Rattle.shape.specs.Index.{unravel}
 use Rattle.shape.specs.Dims.{dims_of}
 use Rattle.maps.specs.Kinds.{mapped_at}
-use borrow.Author.Rules.{rules}
 use Rattle.maps.proofs.map_into.Given as goal
 
 abbrev pub invariant-loop-k : goal.invariant-loop-k

@@ -5,7 +5,6 @@ use lib.ListN.{length}
 use Rattle.shape.specs.Dims.{dims_of}
 use Rattle.shape.proofs.IndexLaw.{dim-le-volume}
 use Rattle.maps.proofs.AttributeLaw.{dims-le, same, pad-take}
-use borrow.Author.Rules.{rules}
 use Rattle.maps.proofs.pad.Goals as goal
 
 pub map_into-requires : goal.map_into-requires

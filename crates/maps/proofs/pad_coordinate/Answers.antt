@@ -1,7 +1,6 @@
 use mathlib.Core.Path.{◌∙◌}
 use native.Mathlib.Omega.{arith}
 use Rattle.maps.proofs.PadLaw.{pad-above, pad-below, pad-negative}
-use borrow.Author.Rules.{rules}
 use Rattle.maps.proofs.pad_coordinate.Goals as goal
 
 pub returns-then-x-low : goal.returns-then-x-low

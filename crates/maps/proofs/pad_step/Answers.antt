@@ -1,6 +1,5 @@
 use mathlib.Core.Path.{refl}
 use borrow.Author.Tests.{eq-eqb, ne_eqb}
-use borrow.Author.Rules.{rules}
 use Rattle.lists.proofs.SearchLaw.{pick_first, pick_second}
 use Rattle.maps.proofs.pad_step.Goals as goal
 

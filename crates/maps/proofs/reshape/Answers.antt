@@ -1,4 +1,4 @@
-use Prim.Native.Nat.{ℕ, ◌≤◌, ◌-◌, ◌+◌}
+use Prim.Native.Nat.{ℕ}
 use mathlib.Core.Path.{◌≡◌, ◌∙◌, sym, ap, refl}
 use mathlib.Core.List.{List, ◌++◌}
 use native.Mathlib.Omega.{arith}
@@ -8,7 +8,6 @@ use Rattle.lists.proofs.TabLaw.{fill_step, length-fill, fill-whole, tab-get_or}
 use Rattle.shape.specs.Index.{at}
 use Rattle.shape.specs.Dims.{dims_of}
 use Rattle.maps.proofs.ReshapeLaw.{reshape-same}
-use borrow.Author.Rules.{rules}
 use Rattle.maps.proofs.reshape.Goals as goal
 
 pub loop-k-init : goal.loop-k-init

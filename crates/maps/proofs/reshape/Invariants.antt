@@ -1,14 +1,9 @@
-use Prim.Native.Nat.{ℕ, ◌≤◌, ◌-◌, ◌+◌}
-use mathlib.Core.Path.{◌≡◌, ◌∙◌, sym, ap, refl}
-use mathlib.Core.List.{List, ◌++◌}
-use native.Mathlib.Omega.{arith}
-use lib.ListN.{length, drop, set}
+use Prim.Native.Nat.{◌≤◌, ◌-◌}
+use mathlib.Core.Path.{◌≡◌}
+use mathlib.Core.List.{◌++◌}
+use lib.ListN.{drop}
 use Rattle.lists.specs.Lists.{tab}
-use Rattle.lists.proofs.TabLaw.{fill_step, length-fill, fill-whole, tab-get_or}
 use Rattle.shape.specs.Index.{at}
-use Rattle.shape.specs.Dims.{dims_of}
-use Rattle.maps.proofs.ReshapeLaw.{reshape-same}
-use borrow.Author.Rules.{rules}
 use Rattle.maps.proofs.reshape.Given as goal
 
 abbrev pub invariant-loop-k : goal.invariant-loop-k

@@ -6,7 +6,6 @@ use Rattle.shape.specs.Index.{at}
 use Rattle.shape.proofs.IndexLaw.{dim-le-volume}
 use Rattle.maps.proofs.AttributeLaw.{dims-le, slice-index-take, slice-take}
 use Rattle.maps.proofs.SliceLaw.{slice-below}
-use borrow.Author.Rules.{rules}
 use Rattle.maps.proofs.slice.Goals as goal
 
 pub map_into-requires : goal.map_into-requires
