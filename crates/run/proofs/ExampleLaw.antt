@@ -4,7 +4,7 @@ use mathlib.Core.Path.{◌≡◌, refl, sym, ap, ◌∙◌, subst}
 use mathlib.Core.Bool.{Bool, true, false}
 use mathlib.Core.List.Memᴰ
 use mathlib.Core.List.{List, [], ◌∷◌}
-use mathlib.Core.Option.{Option, none, some}
+use mathlib.Core.Option.{none, some}
 use Prim.Native.Nat.{ℕ, zero, suc, ◌+◌, ◌≤◌, ◌<◌, ◌/◌}
 use native.Mathlib.Omega.{arith}
 use lib.Dec.{ltb, eqb}
@@ -12,7 +12,7 @@ use lib.ListN.{length, get_or, get_elem?}
 use Rattle.lists.specs.Lists.{pick, tab, first_where, All}
 use Rattle.lists.proofs.TabLaw.{length-tab}
 use Rattle.run.specs.Tree.{MonoidOn}
-use Rattle.run.specs.Run.{Out, gives, stops, results, stopped, ended, met, count, Scoped, Claim}
+use Rattle.run.specs.Run.{gives, stops, results, stopped, ended, met, count, Scoped, Claim}
 use Rattle.run.specs.Ways.{evaluation, free_run, language_of, OrderOf, TreesAllowed, OrderFree, AllFit, Gathers, Premises, by_fold}
 use Rattle.run.specs.Example.{SmallTensor, leading, nothing, SmallOp, constant, divide, first, small_operands, small_way, small_rows, quotients, numbers, halves, order, trees, twice}
 use Rattle.run.proofs.TableLaw.{count-other}

@@ -1,6 +1,6 @@
 -- A small set of ops over numbers, and two programs, on which the order theorem is worked.
 -- Assumes nothing.
-use Rattle.std.specs.Prelude.{Bool, true, false, List, [], ◌∷◌, ℕ, zero, suc, ◌/◌, eqb, ltb, get_or}
+use Rattle.std.specs.Prelude.{List, [], ◌∷◌, ℕ, zero, suc, ◌/◌, eqb, ltb, get_or}
 use Rattle.lists.specs.Lists.{pick, tab, first_where}
 use Rattle.run.specs.Tree.{Tree, leaf, node, start, element}
 use Rattle.run.specs.Run.{Out, gives, stops, RunProgram}

@@ -1,11 +1,11 @@
 -- Sets of ops whose reductions may be run by any allowed trees, their free runs, and the claim that order and trees do not matter (01, "Free runs").
 -- Assumes nothing.
 use Rattle.std.specs.Prelude.{◌≡◌, List, [], ◌∷◌, map, ℕ, zero, suc, ◌+◌, ◌≤◌, ◌<◌, length, get_or}
-use Rattle.std.proofs.Math.Option.{Option, none, some}
+use Rattle.std.proofs.Math.Option.{some}
 use Rattle.std.proofs.Math.ListN.{get_elem?}
 use Rattle.lists.specs.Lists.{All}
 use Rattle.run.specs.Tree.{Tree, count_from, Allowed, fold, tree_value, MonoidOn}
-use Rattle.run.specs.Run.{Out, gives, stops, Language, RunProgram, Answer, evaluate, RunEnd, first_table, run, on_option, Order, Scoped, Claim}
+use Rattle.run.specs.Run.{Out, gives, Language, RunProgram, Answer, evaluate, RunEnd, first_table, run, on_option, Order, Scoped, Claim}
 
 -- An op has its result outright, or stops; or it gathers: each element of its result is made of a row of elements from a start value by an
 -- operation, as in a reduction. A are values, B stops, E elements.
