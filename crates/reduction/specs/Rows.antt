@@ -8,7 +8,7 @@ use Rattle.scalar.specs.Body.{body_of}
 use Rattle.scalar.specs.declared.Body.{Body}
 use Rattle.shape.specs.Index.{at, tabulate, element_at}
 use Rattle.shape.specs.Place.{is_in, count_below}
-use Rattle.shape.specs.Dims.{dims_of, Sized, Fills}
+use Rattle.shape.specs.Dims.{Sized, Fills}
 use Rattle.shape.specs.declared.Shape.{Shape}
 
 -- the f d that pass the test, for d below n, in ascending order

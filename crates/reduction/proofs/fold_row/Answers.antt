@@ -1,5 +1,5 @@
-use Prim.Native.Nat.{ℕ, ◌≤◌, ◌-◌, ◌+◌}
-use mathlib.Core.Path.{◌≡◌, ◌∙◌, sym, ap, refl}
+use Prim.Native.Nat.{ℕ, ◌+◌}
+use mathlib.Core.Path.{◌∙◌, sym, ap, refl}
 use native.Mathlib.Omega.{arith}
 use lib.ListN.{length, take, drop}
 use Rattle.lists.specs.Lists.{tab}
@@ -7,9 +7,8 @@ use Rattle.run.specs.Tree.{fold}
 use Rattle.scalar.specs.Body.{body_of}
 use Rattle.shape.specs.Index.{at, size, unravel, element_at}
 use Rattle.shape.specs.Dims.{dims_of}
-use Rattle.reduction.specs.Rows.{inserted, row_over}
+use Rattle.reduction.specs.Rows.{inserted}
 use Rattle.reduction.proofs.RowLaw.{fold-turn, fold_end}
-use borrow.Author.Rules.{rules}
 use Rattle.reduction.proofs.fold_row.Goals as goal
 
 pub loop-q-init : goal.loop-q-init

@@ -1,15 +1,11 @@
-use Prim.Native.Nat.{ℕ, ◌≤◌, ◌-◌, ◌+◌}
-use mathlib.Core.Path.{◌≡◌, ◌∙◌, sym, ap, refl}
-use native.Mathlib.Omega.{arith}
-use lib.ListN.{length, take, drop}
-use Rattle.lists.specs.Lists.{tab}
+use Prim.Native.Nat.{◌≤◌, ◌-◌}
+use mathlib.Core.Path.{◌≡◌}
+use lib.ListN.{take, drop}
 use Rattle.run.specs.Tree.{fold}
 use Rattle.scalar.specs.Body.{body_of}
-use Rattle.shape.specs.Index.{at, size, unravel, element_at}
+use Rattle.shape.specs.Index.{at}
 use Rattle.shape.specs.Dims.{dims_of}
-use Rattle.reduction.specs.Rows.{inserted, row_over}
-use Rattle.reduction.proofs.RowLaw.{fold-turn, fold_end}
-use borrow.Author.Rules.{rules}
+use Rattle.reduction.specs.Rows.{row_over}
 use Rattle.reduction.proofs.fold_row.Given as goal
 
 abbrev pub invariant-loop-q : goal.invariant-loop-q

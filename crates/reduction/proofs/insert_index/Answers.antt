@@ -1,4 +1,4 @@
-use Prim.Native.Nat.{ℕ, ◌≤◌, ◌-◌, ◌+◌}
+use Prim.Native.Nat.{ℕ, ◌-◌, ◌+◌}
 use mathlib.Core.Path.{◌≡◌, ◌∙◌, sym, ap, refl}
 use mathlib.Core.List.{List, ◌++◌}
 use mathlib.Core.Bool.{Bool}
@@ -7,10 +7,9 @@ use lib.ListN.{take, drop, set, replicate}
 use Rattle.lists.specs.Lists.{pick, tab}
 use Rattle.lists.proofs.TabLaw.{fill_step, length-tab}
 use Rattle.shape.specs.Index.{at}
-use Rattle.shape.specs.Place.{is_in, count_below}
+use Rattle.shape.specs.Place.{is_in}
 use Rattle.reduction.specs.Rows.{inserted}
 use Rattle.reduction.proofs.CollectLaw.{count-step, one-le}
-use borrow.Author.Rules.{rules}
 use Rattle.reduction.proofs.insert_index.Goals as goal
 
 pub loop-d-init : goal.loop-d-init

@@ -1,16 +1,11 @@
-use Prim.Native.Nat.{ℕ, ◌≤◌, ◌-◌, ◌+◌}
-use mathlib.Core.Path.{◌≡◌, ◌∙◌, sym, ap, refl}
-use mathlib.Core.List.{List, ◌++◌}
-use mathlib.Core.Bool.{Bool}
-use native.Mathlib.Omega.{arith}
-use lib.ListN.{take, drop, set, replicate}
-use Rattle.lists.specs.Lists.{pick, tab}
-use Rattle.lists.proofs.TabLaw.{fill_step, length-tab}
+use Prim.Native.Nat.{◌≤◌, ◌-◌}
+use mathlib.Core.Path.{◌≡◌}
+use mathlib.Core.List.{◌++◌}
+use lib.ListN.{take, drop, replicate}
+use Rattle.lists.specs.Lists.{tab}
 use Rattle.shape.specs.Index.{at}
 use Rattle.shape.specs.Place.{is_in, count_below}
 use Rattle.reduction.specs.Rows.{inserted}
-use Rattle.reduction.proofs.CollectLaw.{count-step, one-le}
-use borrow.Author.Rules.{rules}
 use Rattle.reduction.proofs.insert_index.Given as goal
 
 abbrev pub invariant-loop-d : goal.invariant-loop-d

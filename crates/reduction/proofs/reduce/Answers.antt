@@ -1,4 +1,4 @@
-use Prim.Native.Nat.{ℕ, ◌≤◌, ◌-◌, ◌+◌}
+use Prim.Native.Nat.{ℕ}
 use mathlib.Core.Path.{◌≡◌, ◌∙◌, sym, ap, refl}
 use mathlib.Core.List.{List, ◌++◌}
 use native.Mathlib.Omega.{arith}
@@ -10,7 +10,6 @@ use Rattle.shape.specs.Dims.{dims_of}
 use Rattle.run.specs.Tree.{fold}
 use Rattle.scalar.specs.Body.{body_of}
 use Rattle.reduction.specs.Rows.{row_for_index}
-use borrow.Author.Rules.{rules}
 use Rattle.reduction.proofs.reduce.Goals as goal
 
 pub loop-k-init : goal.loop-k-init

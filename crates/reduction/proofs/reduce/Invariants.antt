@@ -1,16 +1,13 @@
-use Prim.Native.Nat.{ℕ, ◌≤◌, ◌-◌, ◌+◌}
-use mathlib.Core.Path.{◌≡◌, ◌∙◌, sym, ap, refl}
-use mathlib.Core.List.{List, ◌++◌}
-use native.Mathlib.Omega.{arith}
-use lib.ListN.{length, take, drop, set}
+use Prim.Native.Nat.{◌≤◌, ◌-◌}
+use mathlib.Core.Path.{◌≡◌}
+use mathlib.Core.List.{◌++◌}
+use lib.ListN.{take, drop}
 use Rattle.lists.specs.Lists.{tab}
-use Rattle.lists.proofs.TabLaw.{fill_step, length-fill, fill-whole, map-tab}
-use Rattle.shape.specs.Index.{size, unravel}
+use Rattle.shape.specs.Index.{unravel}
 use Rattle.shape.specs.Dims.{dims_of}
 use Rattle.run.specs.Tree.{fold}
 use Rattle.scalar.specs.Body.{body_of}
 use Rattle.reduction.specs.Rows.{row_for_index}
-use borrow.Author.Rules.{rules}
 use Rattle.reduction.proofs.reduce.Given as goal
 
 abbrev pub invariant-loop-k : goal.invariant-loop-k

@@ -9,7 +9,6 @@ use Rattle.shape.specs.Dims.{dims_of}
 use Rattle.shape.proofs.IndexLaw.{at-six}
 use Rattle.reduction.specs.Rows.{slice_shape, row_over}
 use Rattle.reduction.proofs.SliceLaw.{dims-from, slice-sized}
-use borrow.Author.Rules.{rules}
 use Rattle.reduction.proofs.reduced_at.Goals as goal
 
 pub fold_row-requires : goal.fold_row-requires

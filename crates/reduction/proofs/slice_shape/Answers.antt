@@ -1,4 +1,4 @@
-use Prim.Native.Nat.{ℕ, ◌≤◌, ◌-◌, ◌+◌}
+use Prim.Native.Nat.{ℕ, ◌≤◌, ◌+◌}
 use mathlib.Core.Path.{◌≡◌, ◌∙◌, sym, ap, refl}
 use mathlib.Core.List.{List}
 use mathlib.Core.Bool.{Bool}
@@ -8,7 +8,7 @@ use Rattle.shape.specs.Index.{at, in_six}
 use Rattle.shape.specs.Dims.{shape_from}
 use Rattle.shape.specs.Place.{is_in}
 use Rattle.reduction.specs.Rows.{collect}
-use Rattle.reduction.proofs.CollectLaw.{collect-few, collect-taken, collect-left, collect-store, collect-dims, length_taken}
+use Rattle.reduction.proofs.CollectLaw.{collect-few, collect-left, collect-store, collect-dims, length_taken}
 use borrow.Author.Rules.{rules}
 use Rattle.reduction.proofs.slice_shape.Goals as goal
 use Rattle.reduction.proofs.slice_shape.Goals.{then-is_in, else-is_in}
@@ -47,16 +47,16 @@ loop-d-preserved c =
     let is = sym c.is_in.ensures in (
       omega arith,
       elim c.if-is_in.branch [
-          then-is_in w ↦ w.n-is ∙ ap (λ (n : ℕ). n + 1) l.loop-d.invariant.1 ∙ sym (length_taken d t f (is ∙ w.if-is_in.true))
+        | then-is_in w ↦ w.n-is ∙ ap (λ (n : ℕ). n + 1) l.loop-d.invariant.1 ∙ sym (length_taken d t f (is ∙ w.if-is_in.true))
         | else-is_in w ↦ w.n-is ∙ l.loop-d.invariant.1 ∙ ap length (sym (collect-left d t f (is ∙ w.if-is_in.false)))
       ],
       elim c.if-is_in.branch [
-          then-is_in w ↦ w.taken-is ∙ ap (λ (n : ℕ). set l.loop-d.taken n (f d)) l.loop-d.invariant.1
-          ∙ ap (λ (s : List ℕ). set s (length (collect d t f)) (f d)) l.loop-d.invariant.2 ∙ collect-store d t f (is ∙ w.if-is_in.true) (omega arith)
+        | then-is_in w ↦ w.taken-is ∙ ap (λ (n : ℕ). set l.loop-d.taken n (f d)) l.loop-d.invariant.1
+            ∙ ap (λ (s : List ℕ). set s (length (collect d t f)) (f d)) l.loop-d.invariant.2 ∙ collect-store d t f (is ∙ w.if-is_in.true) (omega arith)
         | else-is_in w ↦ w.taken-is ∙ l.loop-d.invariant.2 ∙ ap in_six (sym (collect-left d t f (is ∙ w.if-is_in.false)))
       ],
       elim c.if-is_in.branch [
-          then-is_in w ↦ ap length w.taken-is ∙ length-set l.loop-d.taken l.loop-d.n (f d) ∙ l.loop-d.invariant.3
+        | then-is_in w ↦ ap length w.taken-is ∙ length-set l.loop-d.taken l.loop-d.n (f d) ∙ l.loop-d.invariant.3
         | else-is_in w ↦ ap length w.taken-is ∙ l.loop-d.invariant.3
       ],
     )

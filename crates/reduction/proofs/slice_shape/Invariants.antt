@@ -1,16 +1,9 @@
-use Prim.Native.Nat.{ℕ, ◌≤◌, ◌-◌, ◌+◌}
-use mathlib.Core.Path.{◌≡◌, ◌∙◌, sym, ap, refl}
-use mathlib.Core.List.{List}
-use mathlib.Core.Bool.{Bool}
-use mathlib.Core.Logic.{⊎_elim}
-use native.Mathlib.Omega.{arith}
-use lib.ListN.{length, take, set, length-set}
+use Prim.Native.Nat.{◌≤◌, ◌-◌}
+use mathlib.Core.Path.{◌≡◌}
+use lib.ListN.{length, take}
 use Rattle.shape.specs.Index.{at, in_six}
-use Rattle.shape.specs.Dims.{shape_from}
 use Rattle.shape.specs.Place.{is_in}
 use Rattle.reduction.specs.Rows.{collect}
-use Rattle.reduction.proofs.CollectLaw.{collect-few, collect-taken, collect-left, collect-store, collect-dims, length_taken}
-use borrow.Author.Rules.{rules}
 use Rattle.reduction.proofs.slice_shape.Given as goal
 
 abbrev pub invariant-loop-d : goal.invariant-loop-d
