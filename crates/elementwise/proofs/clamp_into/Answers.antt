@@ -1,9 +1,6 @@
-use Rattle.elementwise.proofs.FillLaw.{Done, done_none, done_next, done_all, spread-within}
-use Rattle.elementwise.specs.Elementwise.{clamp_at}
+use Rattle.elementwise.proofs.FillLaw.{done_none, done_next, done_all, spread-within}
 use lib.ListN.{length}
-use Prim.Native.Nat.{◌-◌}
 use native.Mathlib.Omega.{arith}
-use borrow.Author.Rules.{rules}
 use Rattle.elementwise.proofs.clamp_into.Goals as goal
 
 pub loop-k-init : goal.loop-k-init

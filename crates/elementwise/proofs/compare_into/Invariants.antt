@@ -1,8 +1,7 @@
-use Rattle.elementwise.proofs.FillLaw.{Done, done_none, done_next, done_all}
+use Rattle.elementwise.proofs.FillLaw.{Done}
 use Rattle.elementwise.specs.Elementwise.{compare_at}
 use lib.ListN.{length}
 use Prim.Native.Nat.{◌-◌}
-use borrow.Author.Rules.{rules}
 use Rattle.elementwise.proofs.compare_into.Given as goal
 
 abbrev pub invariant-loop-k : goal.invariant-loop-k

@@ -1,5 +1,4 @@
 use Rattle.division.specs.Division.{division_of}
-use borrow.Author.Rules.{rules}
 use Rattle.elementwise.proofs.divide_slots.Goals as goal
 
 pub returns-in-Value : goal.returns-in-Value

@@ -1,13 +1,8 @@
 use Rattle.elementwise.proofs.DivideLaw.{value-at, zero-here, none_here, zero-at, zero-nowhere}
-use Rattle.elementwise.proofs.FillLaw.{Done, done_none, done_next, done_at}
-use Rattle.elementwise.specs.Elementwise.{is_zero, operand_at, division_at}
-use Rattle.lists.proofs.SearchLaw.{Passed, passed_none, passed-next}
-use mathlib.Core.Path.{◌≡◌}
-use mathlib.Core.Bool.{false}
-use lib.ListN.{length, get_or}
-use Prim.Native.Nat.{◌-◌, ◌<◌}
+use Rattle.elementwise.proofs.FillLaw.{done_none, done_next, done_at}
+use Rattle.elementwise.specs.Elementwise.{is_zero}
+use Rattle.lists.proofs.SearchLaw.{passed_none, passed-next}
 use native.Mathlib.Omega.{arith}
-use borrow.Author.Rules.{rules}
 use Rattle.elementwise.proofs.division_into.Goals as goal
 
 pub walk-init : goal.walk-init

@@ -1,13 +1,10 @@
-use Rattle.elementwise.proofs.DivideLaw.{value-at, zero-here, none_here, zero-at, zero-nowhere}
-use Rattle.elementwise.proofs.FillLaw.{Done, done_none, done_next, done_at}
+use Rattle.elementwise.proofs.FillLaw.{Done}
 use Rattle.elementwise.specs.Elementwise.{is_zero, operand_at, division_at}
-use Rattle.lists.proofs.SearchLaw.{Passed, passed_none, passed-next}
+use Rattle.lists.proofs.SearchLaw.{Passed}
 use mathlib.Core.Path.{◌≡◌}
 use mathlib.Core.Bool.{false}
 use lib.ListN.{length, get_or}
 use Prim.Native.Nat.{◌-◌, ◌<◌}
-use native.Mathlib.Omega.{arith}
-use borrow.Author.Rules.{rules}
 use Rattle.elementwise.proofs.division_into.Given as goal
 
 abbrev pub invariant-loop-j : goal.invariant-loop-j

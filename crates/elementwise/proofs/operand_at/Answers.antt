@@ -1,5 +1,4 @@
 use borrow.Author.Tests.{eq-eqb, ne_eqb}
-use borrow.Author.Rules.{rules}
 use Rattle.elementwise.proofs.operand_at.Goals as goal
 
 pub returns-then-j-eq0 : goal.returns-then-j-eq0

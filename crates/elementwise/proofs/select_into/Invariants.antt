@@ -1,9 +1,7 @@
-use Rattle.elementwise.proofs.FillLaw.{Done, done_none, done_next, done_all, spread-within}
+use Rattle.elementwise.proofs.FillLaw.{Done}
 use Rattle.elementwise.specs.Elementwise.{select_at}
 use lib.ListN.{length}
 use Prim.Native.Nat.{◌-◌}
-use native.Mathlib.Omega.{arith}
-use borrow.Author.Rules.{rules}
 use Rattle.elementwise.proofs.select_into.Given as goal
 
 abbrev pub invariant-loop-k : goal.invariant-loop-k

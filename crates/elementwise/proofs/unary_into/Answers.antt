@@ -1,8 +1,4 @@
-use Rattle.elementwise.proofs.FillLaw.{Done, done_none, done_next, done_all}
-use Rattle.elementwise.specs.Elementwise.{unary_at}
-use lib.ListN.{length}
-use Prim.Native.Nat.{◌-◌}
-use borrow.Author.Rules.{rules}
+use Rattle.elementwise.proofs.FillLaw.{done_none, done_next, done_all}
 use Rattle.elementwise.proofs.unary_into.Goals as goal
 
 pub loop-i-init : goal.loop-i-init

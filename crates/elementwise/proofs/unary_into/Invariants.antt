@@ -1,8 +1,7 @@
-use Rattle.elementwise.proofs.FillLaw.{Done, done_none, done_next, done_all}
+use Rattle.elementwise.proofs.FillLaw.{Done}
 use Rattle.elementwise.specs.Elementwise.{unary_at}
 use lib.ListN.{length}
 use Prim.Native.Nat.{◌-◌}
-use borrow.Author.Rules.{rules}
 use Rattle.elementwise.proofs.unary_into.Given as goal
 
 abbrev pub invariant-loop-i : goal.invariant-loop-i
