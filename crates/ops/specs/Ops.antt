@@ -1,6 +1,6 @@
 -- The set of ops of paper 01 as the order theorem takes it: what each op makes of its operands, outright or gathered.
 -- Assumes nothing.
-use Rattle.std.specs.Prelude.{Bool, true, false, List, [], ◌∷◌, map, ℕ, eqb, length, get_or, drop}
+use Rattle.std.specs.Prelude.{Bool, List, [], map, ℕ, eqb, length, get_or, drop}
 use Rattle.lists.specs.Lists.{tab}
 use Rattle.run.specs.Run.{gives}
 use Rattle.run.specs.Ways.{Way, plain, gather, OpSet}

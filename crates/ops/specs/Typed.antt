@@ -1,12 +1,11 @@
 -- What the verifier grants of the ops of a program, and the premise of demand 3.
 -- Assumes nothing.
-use Rattle.std.specs.Prelude.{◌≡◌, Bool, true, false, List, [], ◌∷◌, ◌++◌, map, ℕ, ◌+◌, ◌<◌, length, get_or}
-use Rattle.std.proofs.Math.Option.{Option, none, some}
+use Rattle.std.specs.Prelude.{◌≡◌, List, [], ◌∷◌, ◌++◌, map, ℕ, ◌+◌, ◌<◌, length, get_or}
+use Rattle.std.proofs.Math.Option.{some}
 use Rattle.std.proofs.Math.ListN.{get_elem?}
 use Rattle.lists.specs.Lists.{All}
 use Rattle.run.specs.Run.{RunProgram, Scoped}
-use Rattle.run.specs.Ways.{AllFit, language_of}
-use Rattle.element.specs.Types.{SlotHolds}
+use Rattle.run.specs.Ways.{language_of}
 use Rattle.element.specs.declared.ElementType.{ElementType}
 use Rattle.element.specs.declared.ElementType.TheVariants.{I1}
 use Rattle.scalar.specs.Body.{identity_of}
@@ -15,8 +14,6 @@ use Rattle.shape.specs.Index.{size}
 use Rattle.reduction.specs.Rows.{ReduceHolds}
 use Rattle.elementwise.specs.Elementwise.{Tensor, Holds, spread_size}
 use Rattle.ops.specs.OpAttributes.{naturals}
-use Rattle.ops.specs.declared.Move.{Move}
-use Rattle.ops.specs.declared.Move.TheVariants.{Reverse}
 use Rattle.ops.specs.declared.Kind.{Kind}
 use Rattle.ops.specs.declared.Kind.TheVariants.{Constant, Iota, Elementwise, Pairwise, Quotient, Compare, Convert, Select, Clamp, Moved, Pad, Concatenate, DynamicSlice, Reduce}
 use Rattle.ops.specs.Ops.{TensorType, no_tensor_type, Node, hlo, element_of, result_dims, element_count, operand_element, operand_dims, is_single}
