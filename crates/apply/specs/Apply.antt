@@ -1,6 +1,6 @@
 -- What doing one op leaves in its stretch, and what it asks.
 -- Assumes nothing.
-use Rattle.std.specs.Prelude.{◌≡◌, List, [], ◌∷◌, map, ℕ, ◌^◌, ◌≤◌, ◌<◌, eqb, length, get_or, take, drop, ℤ}
+use Rattle.std.specs.Prelude.{◌≡◌, List, [], ◌∷◌, map, ℕ, ◌^◌, ◌≤◌, ◌<◌, eqb, length, take, ℤ}
 use Rattle.lists.specs.Lists.{All}
 use Rattle.run.specs.Run.{Out}
 use Rattle.run.specs.Ways.{by_fold}

@@ -1,5 +1,4 @@
 use Rattle.apply.proofs.ApplyLaw.{kind-ready, kind-is, iota-small, iota-is, unary-is, binary-is, compare-is, convert-is, select-is, clamp-is, moved-is, pad-is, dynamic-is, reduce-is}
-use borrow.Author.Rules.{rules}
 use Rattle.apply.proofs.fill.Goals as goal
 
 pub iota-requires : goal.iota-requires

@@ -1,5 +1,4 @@
 use Rattle.apply.proofs.ApplyLaw.{get_or-none}
-use borrow.Author.Rules.{rules}
 use Rattle.apply.proofs.first_of.Goals as goal
 
 pub returns-then-y-eq0 : goal.returns-then-y-eq0

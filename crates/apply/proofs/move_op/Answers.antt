@@ -1,5 +1,4 @@
 use Rattle.apply.proofs.ApplyLaw.{move-ready, move-is, broadcast-is, transpose-is, slice_is, reverse-is}
-use borrow.Author.Rules.{rules}
 use Rattle.apply.proofs.move_op.Goals as goal
 
 pub reshape-requires : goal.reshape-requires
