@@ -1,10 +1,6 @@
-use mathlib.Core.Path.{refl, ◌∙◌}
 use lib.ListN.{length, get_or}
 use Prim.Native.Nat.{◌-◌}
-use native.Mathlib.Omega.{arith}
-use borrow.Author.Rules.{rules}
-use Rattle.elementwise.proofs.FillLaw.{Done, done_none, done_next, done_all}
-use Rattle.constants.proofs.ConstantLaw.{all_read}
+use Rattle.elementwise.proofs.FillLaw.{Done}
 use Rattle.constants.proofs.constant_into.Given as goal
 
 abbrev pub invariant-loop-out : goal.invariant-loop-out
