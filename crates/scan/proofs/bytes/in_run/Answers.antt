@@ -1,5 +1,4 @@
 use Rattle.scan.specs.Bytes.{in_run}
-use borrow.Author.Rules.{rules}
 use Rattle.scan.proofs.bytes.in_run.Goals as goal
 
 pub returns-then-is_digit : goal.returns-then-is_digit

@@ -1,5 +1,4 @@
 use Rattle.scan.specs.Bytes.{is_letter}
-use borrow.Author.Rules.{rules}
 use Rattle.scan.proofs.bytes.is_letter.Goals as goal
 
 pub returns-then-is_between : goal.returns-then-is_between

@@ -1,8 +1,4 @@
-use mathlib.Core.Path.{sym, ◌≡◌, ◌∙◌}
-use borrow.Author.Rules.{rules}
-use Prim.Native.Nat.{◌-◌}
-use lib.ListN.{length}
-use Rattle.scan.specs.Bytes.{run_end}
+use mathlib.Core.Path.{sym, ◌∙◌}
 use Rattle.scan.proofs.ByteLaw.{run_more, run-stop, run_past}
 use Rattle.scan.proofs.bytes.run_end.Goals as goal
 

@@ -1,9 +1,7 @@
-use mathlib.Core.Path.{sym, ◌≡◌, ◌∙◌}
-use borrow.Author.Rules.{rules}
+use mathlib.Core.Path.{◌≡◌}
 use Prim.Native.Nat.{◌-◌}
 use lib.ListN.{length}
 use Rattle.scan.specs.Bytes.{run_end}
-use Rattle.scan.proofs.ByteLaw.{run_more, run-stop, run_past}
 use Rattle.scan.proofs.bytes.run_end.Given as goal
 
 abbrev pub invariant-loop-i : goal.invariant-loop-i

@@ -1,9 +1,5 @@
-use borrow.Author.Rules.{rules}
-use mathlib.Core.Path.{◌≡◌, sym, ◌∙◌}
-use mathlib.Core.Bool.{false}
-use Prim.Native.Nat.{◌-◌}
-use lib.ListN.{length, drop}
-use Rattle.scan.specs.Bytes.{in_comment, skip_from, skip_end}
+use mathlib.Core.Path.{sym, ◌∙◌}
+use Rattle.scan.specs.Bytes.{in_comment, skip_end}
 use Rattle.scan.proofs.ByteLaw.{skip-past, skip_step}
 use Rattle.scan.proofs.bytes.skip.Goals as goal
 

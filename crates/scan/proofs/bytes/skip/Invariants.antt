@@ -1,10 +1,8 @@
-use borrow.Author.Rules.{rules}
-use mathlib.Core.Path.{◌≡◌, sym, ◌∙◌}
+use mathlib.Core.Path.{◌≡◌}
 use mathlib.Core.Bool.{false}
 use Prim.Native.Nat.{◌-◌}
 use lib.ListN.{length, drop}
-use Rattle.scan.specs.Bytes.{in_comment, skip_from, skip_end}
-use Rattle.scan.proofs.ByteLaw.{skip-past, skip_step}
+use Rattle.scan.specs.Bytes.{skip_from}
 use Rattle.scan.proofs.bytes.skip.Given as goal
 
 abbrev pub invariant-loop-i : goal.invariant-loop-i

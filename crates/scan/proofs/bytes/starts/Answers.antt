@@ -1,7 +1,5 @@
-use mathlib.Core.Path.{sym, ◌≡◌, ◌∙◌}
+use mathlib.Core.Path.{sym, ◌∙◌}
 use borrow.Author.Rules.{rules}
-use Prim.Native.Nat.{◌-◌}
-use lib.ListN.{length, drop}
 use Rattle.scan.specs.Bytes.{starts_with}
 use Rattle.scan.proofs.ByteLaw.{starts_none, starts-end, starts_more, starts-not}
 use Rattle.scan.proofs.bytes.starts.Goals as goal

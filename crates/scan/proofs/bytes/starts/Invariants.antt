@@ -1,9 +1,7 @@
-use mathlib.Core.Path.{sym, ◌≡◌, ◌∙◌}
-use borrow.Author.Rules.{rules}
+use mathlib.Core.Path.{◌≡◌}
 use Prim.Native.Nat.{◌-◌}
 use lib.ListN.{length, drop}
 use Rattle.scan.specs.Bytes.{starts_with}
-use Rattle.scan.proofs.ByteLaw.{starts_none, starts-end, starts_more, starts-not}
 use Rattle.scan.proofs.bytes.starts.Given as goal
 
 abbrev pub invariant-loop-k : goal.invariant-loop-k

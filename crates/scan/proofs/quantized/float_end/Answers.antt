@@ -1,5 +1,4 @@
 use Rattle.scan.specs.Quantized.{float_end}
-use borrow.Author.Rules.{rules}
 use Rattle.scan.proofs.quantized.float_end.Goals as goal
 
 pub returns : goal.returns

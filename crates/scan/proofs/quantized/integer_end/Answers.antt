@@ -1,5 +1,4 @@
 use Rattle.scan.specs.Quantized.{integer_end}
-use borrow.Author.Rules.{rules}
 use Rattle.scan.proofs.quantized.integer_end.Goals as goal
 
 pub returns : goal.returns

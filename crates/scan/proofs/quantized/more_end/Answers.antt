@@ -1,9 +1,6 @@
-use borrow.Author.Rules.{rules}
 use borrow.Author.Tests.{eq-eqb, ne_eqb}
 use native.Mathlib.Omega.{arith}
-use mathlib.Core.Path.{◌≡◌, sym, ◌∙◌}
-use lib.ListN.{length}
-use Rattle.scan.specs.Quantized.{more_end}
+use mathlib.Core.Path.{sym, ◌∙◌}
 use Rattle.scan.proofs.ByteLaw.{byte_inside}
 use Rattle.scan.proofs.TypeLaw.{more-past, more-step}
 use Rattle.scan.proofs.quantized.more_end.Goals as goal

@@ -1,5 +1,4 @@
 use Rattle.scan.specs.Quantized.{parameter_end}
-use borrow.Author.Rules.{rules}
 use Rattle.scan.proofs.quantized.parameter_end.Goals as goal
 
 pub returns : goal.returns

@@ -3,7 +3,6 @@ use Rattle.scan.specs.Bytes.{is_sign}
 use native.Mathlib.Omega.{arith}
 use mathlib.Core.Path.{refl}
 use Rattle.scan.specs.Quantized.{sign_end}
-use borrow.Author.Rules.{rules}
 use Rattle.scan.proofs.quantized.sign_end.Goals as goal
 
 pub overflow_add-result : goal.overflow_add-result

@@ -2,7 +2,6 @@ use Rattle.scan.proofs.ByteLaw.{byte_inside}
 use borrow.Author.Tests.{eq-eqb, ne_eqb}
 use native.Mathlib.Omega.{arith}
 use Rattle.scan.specs.Quantized.{storage_end}
-use borrow.Author.Rules.{rules}
 use Rattle.scan.proofs.quantized.storage_end.Goals as goal
 
 pub overflow_add-at : goal.overflow_add-at

@@ -1,6 +1,5 @@
 use Rattle.scan.specs.TypeText.{byte_end}
 use borrow.Author.Tests.{eq-eqb, ne_eqb, le-leb, lt-leb}
-use borrow.Author.Rules.{rules}
 use Rattle.scan.proofs.typetext.byte_end.Goals as goal
 
 pub returns-then-text-at : goal.returns-then-text-at

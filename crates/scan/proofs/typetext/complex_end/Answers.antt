@@ -1,5 +1,4 @@
 use Rattle.scan.specs.TypeText.{complex_end}
-use borrow.Author.Rules.{rules}
 use Rattle.scan.proofs.typetext.complex_end.Goals as goal
 
 pub returns : goal.returns

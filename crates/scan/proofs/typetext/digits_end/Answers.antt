@@ -1,5 +1,4 @@
 use Rattle.scan.specs.TypeText.{digits_end}
-use borrow.Author.Rules.{rules}
 use Rattle.scan.proofs.typetext.digits_end.Goals as goal
 
 pub returns-then-is_digit : goal.returns-then-is_digit

@@ -5,7 +5,6 @@ use lib.ListN.{length}
 use Prim.Native.Nat.{◌-◌, ◌≤◌}
 use mathlib.Core.Path.{sym, ◌∙◌}
 use Rattle.scan.specs.TensorText.{element_end}
-use borrow.Author.Rules.{rules}
 use Rattle.scan.proofs.typetext.element_end.Goals as goal
 
 pub overflow_add-at : goal.overflow_add-at

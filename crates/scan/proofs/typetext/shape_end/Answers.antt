@@ -1,9 +1,6 @@
-use borrow.Author.Rules.{rules}
 use borrow.Author.Tests.{eq-eqb, ne_eqb}
-use mathlib.Core.Path.{◌≡◌, sym, ◌∙◌}
-use Prim.Native.Nat.{◌-◌}
-use lib.ListN.{length, drop}
-use Rattle.scan.specs.TypeText.{shape_end_from, shape_end}
+use mathlib.Core.Path.{sym, ◌∙◌}
+use Rattle.scan.specs.TypeText.{shape_end}
 use Rattle.scan.proofs.TypeLaw.{shape-past, shape-step}
 use Rattle.scan.proofs.typetext.shape_end.Goals as goal
 

@@ -1,10 +1,7 @@
-use borrow.Author.Rules.{rules}
-use borrow.Author.Tests.{eq-eqb, ne_eqb}
-use mathlib.Core.Path.{◌≡◌, sym, ◌∙◌}
+use mathlib.Core.Path.{◌≡◌}
 use Prim.Native.Nat.{◌-◌}
 use lib.ListN.{length, drop}
-use Rattle.scan.specs.TypeText.{shape_end_from, shape_end}
-use Rattle.scan.proofs.TypeLaw.{shape-past, shape-step}
+use Rattle.scan.specs.TypeText.{shape_end_from}
 use Rattle.scan.proofs.typetext.shape_end.Given as goal
 
 abbrev pub invariant-loop-i : goal.invariant-loop-i

@@ -1,6 +1,5 @@
 use Rattle.scan.specs.TypeText.{size_next}
 use borrow.Author.Tests.{eq-eqb, ne_eqb, lt-ltb, le-ltb}
-use borrow.Author.Rules.{rules}
 use Rattle.scan.proofs.typetext.size_next.Goals as goal
 
 pub returns-then-size-lt2 : goal.returns-then-size-lt2

@@ -1,5 +1,4 @@
 use Rattle.scan.specs.TensorText.{type_close}
-use borrow.Author.Rules.{rules}
 use Rattle.scan.proofs.typetext.type_close.Goals as goal
 
 pub returns : goal.returns

@@ -1,5 +1,4 @@
 use Rattle.scan.specs.TypeText.{word_end}
-use borrow.Author.Rules.{rules}
 use Rattle.scan.proofs.typetext.word_end.Goals as goal
 
 pub returns-then-is_letter : goal.returns-then-is_letter
