@@ -1,6 +1,5 @@
 use borrow.Author.Tests.{eq-eqb, ne_eqb, le-leb, lt-leb}
 use Rattle.text.specs.Lex.{lexeme}
-use borrow.Author.Rules.{rules}
 use Rattle.text.proofs.lexeme_at.Goals as goal
 
 pub returns-then-text-at : goal.returns-then-text-at

@@ -1,5 +1,4 @@
 use Rattle.text.specs.Lex.{mark_token}
-use borrow.Author.Rules.{rules}
 use Rattle.text.proofs.mark_token.Goals as goal
 
 pub returns-then-is_between : goal.returns-then-is_between

@@ -1,6 +1,5 @@
 use borrow.Author.Tests.{eq-eqb, ne_eqb}
 use Rattle.text.specs.Lex.{name_end}
-use borrow.Author.Rules.{rules}
 use Rattle.text.proofs.name_end.Goals as goal
 
 pub returns-then-is_letter : goal.returns-then-is_letter

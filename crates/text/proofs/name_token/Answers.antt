@@ -1,6 +1,5 @@
 use borrow.Author.Tests.{eq-eqb, ne_eqb}
 use Rattle.text.specs.Lex.{name_token}
-use borrow.Author.Rules.{rules}
 use Rattle.text.proofs.name_token.Goals as goal
 
 pub returns-then-end-at : goal.returns-then-end-at

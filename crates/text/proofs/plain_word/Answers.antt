@@ -1,5 +1,4 @@
 use Rattle.text.specs.Lex.{plain_word}
-use borrow.Author.Rules.{rules}
 use Rattle.text.proofs.plain_word.Goals as goal
 
 pub returns : goal.returns

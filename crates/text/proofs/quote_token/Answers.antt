@@ -2,7 +2,6 @@ use Rattle.scan.proofs.ByteLaw.{byte_inside}
 use borrow.Author.Tests.{eq-eqb, ne_eqb}
 use native.Mathlib.Omega.{arith}
 use Rattle.text.specs.Lex.{quote_token}
-use borrow.Author.Rules.{rules}
 use Rattle.text.proofs.quote_token.Goals as goal
 
 pub returns-then-byte_at-ne46 : goal.returns-then-byte_at-ne46

@@ -1,5 +1,4 @@
 use Rattle.text.specs.Lex.{sign_token}
-use borrow.Author.Rules.{rules}
 use Rattle.text.proofs.sign_token.Goals as goal
 
 pub returns-then-is_digit : goal.returns-then-is_digit

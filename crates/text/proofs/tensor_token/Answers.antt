@@ -5,7 +5,6 @@ use native.Mathlib.Omega.{arith}
 use lib.ListN.{length}
 use Prim.Native.Nat.{◌-◌, ◌≤◌}
 use Rattle.text.specs.Lex.{tensor_token}
-use borrow.Author.Rules.{rules}
 use Rattle.text.proofs.tensor_token.Goals as goal
 
 pub overflow_add-at : goal.overflow_add-at

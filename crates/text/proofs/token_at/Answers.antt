@@ -1,5 +1,4 @@
 use Rattle.text.specs.Lex.{token_at}
-use borrow.Author.Rules.{rules}
 use Rattle.text.proofs.token_at.Goals as goal
 
 pub returns : goal.returns

@@ -5,7 +5,6 @@ use lib.ListN.{length}
 use Prim.Native.Nat.{◌-◌, ◌≤◌}
 use mathlib.Core.Path.{sym, ◌∙◌}
 use Rattle.text.specs.Lex.{word_token}
-use borrow.Author.Rules.{rules}
 use Rattle.text.proofs.word_token.Goals as goal
 
 pub overflow_add-result : goal.overflow_add-result

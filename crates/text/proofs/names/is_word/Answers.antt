@@ -1,6 +1,5 @@
 use Rattle.text.specs.Names.{word_is}
 use borrow.Author.Tests.{eq-eqb, ne_eqb, le-leb, lt-leb}
-use borrow.Author.Rules.{rules}
 use Rattle.text.proofs.names.is_word.Goals as goal
 
 pub returns-then-end-start : goal.returns-then-end-start

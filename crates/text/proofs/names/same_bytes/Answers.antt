@@ -1,9 +1,6 @@
-use borrow.Author.Rules.{rules}
 use borrow.Author.Tests.{eq-eqb, ne_eqb}
 use Rattle.text.proofs.NameLaw.{same_none, same_step, same-past, same-short}
-use mathlib.Core.Path.{◌≡◌, sym, ◌∙◌}
-use lib.ListN.{take, drop}
-use Rattle.text.specs.Names.{same_bytes}
+use mathlib.Core.Path.{sym, ◌∙◌}
 use Rattle.text.proofs.names.same_bytes.Goals as goal
 
 pub returns-then-text-i : goal.returns-then-text-i

@@ -1,7 +1,4 @@
-use borrow.Author.Rules.{rules}
-use borrow.Author.Tests.{eq-eqb, ne_eqb}
-use Rattle.text.proofs.NameLaw.{same_none, same_step, same-past, same-short}
-use mathlib.Core.Path.{◌≡◌, sym, ◌∙◌}
+use mathlib.Core.Path.{◌≡◌}
 use lib.ListN.{take, drop}
 use Rattle.text.specs.Names.{same_bytes}
 use Rattle.text.proofs.names.same_bytes.Given as goal

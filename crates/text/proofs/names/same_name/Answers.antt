@@ -1,6 +1,5 @@
 use Rattle.text.specs.Names.{name_bytes, same_name}
 use borrow.Author.Tests.{eq-eqb, ne_eqb}
-use borrow.Author.Rules.{rules}
 use Rattle.text.proofs.names.same_name.Goals as goal
 
 pub returns-then-a-b : goal.returns-then-a-b
