@@ -1,4 +1,3 @@
-use borrow.Author.Rules.{rules}
 use Rattle.cursor.specs.Cursor.{past_token}
 use Rattle.cursor.proofs.past.Goals as goal
 

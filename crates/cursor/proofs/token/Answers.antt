@@ -1,4 +1,3 @@
-use borrow.Author.Rules.{rules}
 use Rattle.cursor.specs.Cursor.{token_of}
 use Rattle.cursor.proofs.token.Goals as goal
 
