@@ -1,7 +1,6 @@
 use Rattle.types.proofs.DigitLaw.{above, fits-pos}
 use Rattle.types.specs.Numbers.{fitting}
 use mathlib.Core.Path.{sym, ap, ◌∙◌}
-use borrow.Author.Rules.{rules}
 use Rattle.types.proofs.numbers.at_least_zero.Goals as goal
 
 pub returns-then-n-highest : goal.returns-then-n-highest

@@ -4,7 +4,6 @@ use Rattle.element.specs.Types.{slot_for}
 use Rattle.element.proofs.Held.{signed-small}
 use Rattle.types.specs.Numbers.{fitting}
 use Rattle.types.proofs.DigitLaw.{below, fits-negsuc, unsigned-negsuc, negated-next}
-use borrow.Author.Rules.{rules}
 use Rattle.types.proofs.numbers.below_zero.Goals as goal
 
 pub overflow_add-n : goal.overflow_add-n

@@ -1,5 +1,4 @@
 use Rattle.types.specs.Numbers.{magnitude_of, as_decimal, decimal_of}
-use borrow.Author.Rules.{rules}
 use Rattle.types.proofs.numbers.decimal_at.Goals as goal
 
 pub returns : goal.returns

@@ -1,6 +1,5 @@
 use Rattle.types.proofs.DigitLaw.{negated-suc}
 use native.Mathlib.Omega.{arith}
-use borrow.Author.Rules.{rules}
 use Rattle.types.proofs.numbers.negated.Goals as goal
 
 pub returns-then-m-eq0 : goal.returns-then-m-eq0

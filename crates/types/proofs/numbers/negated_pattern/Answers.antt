@@ -1,11 +1,10 @@
 use Prim.Native.Nat.{◌-◌}
 use native.Mathlib.Omega.{arith}
-use mathlib.Core.Path.{◌≡◌, sym, ap, ◌∙◌}
+use mathlib.Core.Path.{sym, ap, ◌∙◌}
 use lib.IntN.{negsuc}
 use Rattle.shape.proofs.WholeLaw.{pattern-negsuc}
 use Rattle.types.specs.Numbers.{fitting}
 use Rattle.types.proofs.DigitLaw.{pattern-fits, pattern-unfit, negated-suc}
-use borrow.Author.Rules.{rules}
 use Rattle.types.proofs.numbers.negated_pattern.Goals as goal
 
 pub returns-then-m-eq0 : goal.returns-then-m-eq0

@@ -1,7 +1,6 @@
 use Rattle.types.specs.Numbers.{magnitude_of, negative_at, decimal_of, decimal_number}
 use Rattle.types.proofs.DigitLaw.{of_negative, of-big, of-small, big-pattern}
 use mathlib.Core.Path.{sym, ◌∙◌}
-use borrow.Author.Rules.{rules}
 use Rattle.types.proofs.numbers.pattern_in.Goals as goal
 
 pub returns-then-d : goal.returns-then-d

@@ -1,8 +1,4 @@
-use borrow.Author.Rules.{rules}
-use mathlib.Core.Path.{◌≡◌}
-use Prim.Native.Nat.{◌+◌, ◌-◌, ◌≤◌}
 use native.Mathlib.Omega.{arith}
-use Rattle.types.specs.Tensors.{bytes_between, byte_count}
 use Rattle.types.proofs.ShapeLaw.{count_past, count-one, count-other}
 use Rattle.types.proofs.tensors.count_byte.Goals as goal
 

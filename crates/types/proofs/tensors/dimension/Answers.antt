@@ -1,10 +1,6 @@
-use borrow.Author.Rules.{rules}
-use mathlib.Core.Path.{◌≡◌, ◌∙◌}
-use Prim.Native.Nat.{◌-◌, ◌≤◌}
+use mathlib.Core.Path.{◌∙◌}
 use native.Mathlib.Omega.{arith}
-use lib.ListN.{get_or}
-use Rattle.types.specs.Tensors.{bytes_between}
-use Rattle.types.proofs.ShapeLaw.{capped_from, capped_at, dimension-past, dimension-here, dimension-next, dimension-digit}
+use Rattle.types.proofs.ShapeLaw.{capped_at, dimension-past, dimension-here, dimension-next, dimension-digit}
 use Rattle.types.proofs.tensors.dimension.Goals as goal
 
 pub returns-then-left-eq0 : goal.returns-then-left-eq0

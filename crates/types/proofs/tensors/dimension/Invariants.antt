@@ -1,10 +1,8 @@
-use borrow.Author.Rules.{rules}
-use mathlib.Core.Path.{◌≡◌, ◌∙◌}
+use mathlib.Core.Path.{◌≡◌}
 use Prim.Native.Nat.{◌-◌, ◌≤◌}
-use native.Mathlib.Omega.{arith}
 use lib.ListN.{get_or}
 use Rattle.types.specs.Tensors.{bytes_between}
-use Rattle.types.proofs.ShapeLaw.{capped_from, capped_at, dimension-past, dimension-here, dimension-next, dimension-digit}
+use Rattle.types.proofs.ShapeLaw.{capped_from}
 use Rattle.types.proofs.tensors.dimension.Given as goal
 
 abbrev pub invariant-loop-i : goal.invariant-loop-i

@@ -2,7 +2,6 @@ use Rattle.shape.specs.Dims.{dims_of}
 use Rattle.shape.specs.Index.{volume}
 use borrow.Author.Tests.{lt-ltb, le-ltb}
 use native.Mathlib.Omega.{arith}
-use borrow.Author.Rules.{rules}
 use Rattle.types.proofs.tensors.size_passed.Goals as goal
 
 pub returns-then-s-gt-RANK : goal.returns-then-s-gt-RANK

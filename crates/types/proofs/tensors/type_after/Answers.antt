@@ -1,7 +1,6 @@
 use Rattle.types.proofs.ShapeLaw.{shape-le}
 use Rattle.types.specs.Tensors.{type_after}
 use borrow.Author.Tests.{eq-eqb, ne_eqb}
-use borrow.Author.Rules.{rules}
 use Rattle.types.proofs.tensors.type_after.Goals as goal
 
 pub count_byte-requires : goal.count_byte-requires

@@ -1,6 +1,5 @@
 use Rattle.types.proofs.ShapeLaw.{rank-count, passed-same}
 use Rattle.types.specs.Tensors.{bytes_between, dimensions_from, typed}
-use borrow.Author.Rules.{rules}
 use Rattle.types.proofs.tensors.typed_by.Goals as goal
 
 pub returns : goal.returns

@@ -1,5 +1,4 @@
 use Rattle.types.specs.Tensors.{width_named}
-use borrow.Author.Rules.{rules}
 use Rattle.types.proofs.tensors.width_named.Goals as goal
 
 pub returns-then-is_8 : goal.returns-then-is_8
