@@ -1,7 +1,7 @@
 -- The cells of src/tables.rt as a list, a row for each symbol; written by tools/tables.py.
 -- Assumes nothing.
 use Prim.Native.Nat.{ℕ}
-use Prim.Native.Char.{Char, code}
+use Prim.Native.Char.{code}
 use Prim.Native.String as S
 use mathlib.Core.List.{List, [], ◌∷◌, ◌++◌}
 

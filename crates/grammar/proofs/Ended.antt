@@ -1,6 +1,6 @@
 -- A program's last token is the text's end: the machine expects nothing after it, and always something before it.
 -- Assumes nothing.
-use mathlib.Core.Path.{◌≡◌, refl, sym, subst}
+use mathlib.Core.Path.{◌≡◌, refl, subst}
 use mathlib.Core.List.{List, [], ◌∷◌, ◌++◌, append-nil}
 use mathlib.Core.Bool.{Bool, true, false}
 use Prim.Native.Nat.{ℕ, ◌<◌}
@@ -10,11 +10,11 @@ use lib.ListN.{get_or}
 use borrow.Author.Tests.{ne_eqb}
 use Rattle.lists.specs.Lists.{pick}
 use Rattle.grammar.specs.Symbols.{END, End, Program, among_symbols, matches, leaf_kinds, leaf_count, kind_count}
-use Rattle.grammar.specs.Grammar.{Production, ◌⟶◌, grammar}
+use Rattle.grammar.specs.Grammar.{Production, grammar}
 use Rattle.grammar.specs.Derivation.{◌∈◌}
-use Rattle.grammar.specs.Machine.{Cell, fails, skips, takes, cell, on_cell, step}
-use Rattle.grammar.proofs.TableTest.{both, both_left, both_right, or, implies, implied, true-T, T_true, every, at, up_to, up-to}
-use Rattle.grammar.proofs.CellView.{View, none, empty, leaf, rule, view, each_rule, rule-passes}
+use Rattle.grammar.specs.Machine.{Cell, takes, on_cell, step}
+use Rattle.grammar.proofs.TableTest.{both, both_left, both_right, or, implies, implied, true-T, at, up_to, up-to}
+use Rattle.grammar.proofs.CellView.{View, none, empty, leaf, rule, view, rule-passes}
 use Rattle.grammar.proofs.Sound.{is_empty, empty_right}
 use Rattle.grammar.proofs.Exact.{leaf-bounds}
 

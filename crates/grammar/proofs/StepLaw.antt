@@ -2,17 +2,16 @@
 -- Assumes nothing.
 use mathlib.Core.Path.{◌≡◌, refl, ap, sym, ◌∙◌}
 use mathlib.Core.List.{List, [], ◌∷◌, ◌++◌}
-use mathlib.Core.Bool.{Bool, true, false}
-use Prim.Native.Nat.{ℕ, zero, suc, ◌+◌, ◌-◌, ◌<◌, ◌≤◌}
+use mathlib.Core.Bool.{true, false}
+use Prim.Native.Nat.{ℕ, ◌+◌, ◌-◌, ◌<◌, ◌≤◌}
 use native.Mathlib.Omega.{arith}
 use native.Mathlib.Numerals.{add-one}
 use lib.ListN.{length, get_or, drop, take, length-drop, take-append-drop, drop_of_length-le}
 use lib.Seq.{drop-cons}
-use borrow.Author.Tests.{eq-eqb, ne_eqb, le-leb, lt-leb}
-use Rattle.grammar.specs.declared.Step.{Step}
-use Rattle.grammar.specs.Machine.{Cell, fails, skips, takes, cell, on_cell, step}
+use borrow.Author.Tests.{ne_eqb, le-leb, lt-leb}
+use Rattle.grammar.specs.Machine.{fails, takes, cell, on_cell, step}
 use Rattle.grammar.specs.Tables.{lettered, right_of, head_of, tail_of}
-use Rattle.grammar.specs.Advance.{Advance, advance, advance_by, step_outcome, Pushed, Advanced}
+use Rattle.grammar.specs.Advance.{advance, advance_by, step_outcome, Pushed, Advanced}
 
 module _ (l : List ℕ) (i kind p : ℕ) (h : i < length l) (e : lettered (get_or l i 0) p ≡ cell (get_or l i 0) kind) where
   turn : step (drop i l) kind ≡ on_cell (lettered (get_or l i 0) p) (drop (i + 1) l) (step (drop (i + 1) l) kind)

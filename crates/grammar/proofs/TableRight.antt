@@ -1,16 +1,16 @@
 -- The code's tables are the grammar's cells and productions: one computed test for each.
 -- Assumes nothing.
-use mathlib.Core.Path.{◌≡◌, refl, ap₂, sym, ◌∙◌}
+use mathlib.Core.Path.{◌≡◌, refl, ap₂}
 use mathlib.Core.Bool.{Bool, true, false}
-use mathlib.Core.List.{List, [], ◌∷◌, ◌++◌}
-use Prim.Native.Nat.{ℕ, zero, suc, ◌+◌, ◌*◌, ◌-◌, ◌/◌, ◌%◌, ◌<◌, ◌≤◌}
+use mathlib.Core.List.{List, [], ◌∷◌}
+use Prim.Native.Nat.{ℕ, ◌+◌, ◌*◌, ◌-◌, ◌/◌, ◌%◌, ◌<◌, ◌≤◌}
 use native.Mathlib.Omega.{arith}
 use lib.Dec.{T, ltb, ltb→lt, leb, leb→le, eqb, eqb→eq}
 use lib.ListN.{length, get_or}
 use Rattle.grammar.specs.Symbols.{leaf_kinds, matches}
 use Rattle.grammar.specs.Grammar.{Production, ◌⟶◌, grammar}
 use Rattle.grammar.specs.Machine.{Cell, fails, skips, takes, cell}
-use Rattle.grammar.specs.Tables.{right_of, head_of, tail_of, lettered}
+use Rattle.grammar.specs.Tables.{right_of, tail_of, lettered}
 use Rattle.grammar.proofs.TableTest.{both, both_left, both_right, every, at}
 use Rattle.grammar.proofs.CellRows.{cells}
 

@@ -1,7 +1,7 @@
 -- The machine that runs the grammar: it holds the symbols that are still expected, the next one first.
 -- One token is one step; there is no recursion that follows the text's nesting.
 -- Assumes nothing.
-use Rattle.std.specs.Prelude.{ℕ, List, [], ◌∷◌, ◌++◌, Bool, true, false, ltb, eqb}
+use Rattle.std.specs.Prelude.{ℕ, List, [], ◌∷◌, ◌++◌, ltb, eqb}
 use Rattle.lists.specs.Lists.{pick}
 use Rattle.grammar.specs.Symbols.{kind_count, leaf_count, symbol_count, matches}
 use Rattle.grammar.specs.Grammar.{Production, grammar}

@@ -2,7 +2,7 @@
 -- Assumes nothing.
 use Rattle.std.specs.Prelude.{ℕ, ◌-◌, ◌<◌, ◌≤◌, List, [], ◌∷◌, get_or, leb, eqb}
 use Rattle.lists.specs.Lists.{pick}
-use Rattle.grammar.specs.Grammar.{Production, ◌⟶◌, grammar}
+use Rattle.grammar.specs.Grammar.{◌⟶◌, grammar}
 use Rattle.grammar.specs.Machine.{Cell, fails, skips, takes}
 
 -- the right side of the production that a letter names: the letter is 48 more than its number

@@ -1,10 +1,8 @@
-use mathlib.Core.Path.{◌≡◌, refl, ap, sym}
-use Prim.Native.Nat.{◌-◌}
+use mathlib.Core.Path.{refl, ap}
 use native.Mathlib.Omega.{arith}
-use borrow.Author.Rules.{rules}
 use lib.ListN.{length}
 use Rattle.grammar.proofs.TableRight.{tail-short}
-use Rattle.grammar.proofs.StepLaw.{Sought, sought-none, sought-all, by-rule, by-leaf, by-fail, by-skip}
+use Rattle.grammar.proofs.StepLaw.{sought-none, sought-all, by-rule, by-leaf, by-fail, by-skip}
 use Rattle.grammar.proofs.advance.Goals as goal
 
 pub loop-i-init : goal.loop-i-init

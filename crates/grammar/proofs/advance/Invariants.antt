@@ -1,10 +1,7 @@
-use mathlib.Core.Path.{◌≡◌, refl, ap, sym}
+use mathlib.Core.Path.{◌≡◌}
 use Prim.Native.Nat.{◌-◌}
-use native.Mathlib.Omega.{arith}
-use borrow.Author.Rules.{rules}
 use lib.ListN.{length}
-use Rattle.grammar.proofs.TableRight.{tail-short}
-use Rattle.grammar.proofs.StepLaw.{Sought, sought-none, sought-all, by-rule, by-leaf, by-fail, by-skip}
+use Rattle.grammar.proofs.StepLaw.{Sought}
 use Rattle.grammar.proofs.advance.Given as goal
 
 abbrev pub invariant-loop-i : goal.invariant-loop-i

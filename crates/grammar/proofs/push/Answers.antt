@@ -1,12 +1,10 @@
 use mathlib.Core.Path.{◌≡◌, ◌∙◌}
-use mathlib.Core.List.{List}
-use Prim.Native.Nat.{ℕ, ◌≤◌, ◌+◌, ◌-◌}
+use Prim.Native.Nat.{◌-◌}
 use native.Mathlib.Omega.{arith}
 use borrow.Author.Rules.{rules}
-use lib.ListN.{length, length-set}
-use Rattle.grammar.specs.Tables.{right_of, tail_of}
+use Rattle.grammar.specs.Tables.{right_of}
 use Rattle.grammar.proofs.TableRight.{tail-short}
-use Rattle.grammar.proofs.StackLaw.{Partly, none_yet, one_more, tail-get}
+use Rattle.grammar.proofs.StackLaw.{none_yet, one_more, tail-get}
 use Rattle.grammar.proofs.push.Goals as goal
 
 pub loop-k-init : goal.loop-k-init

@@ -1,12 +1,5 @@
-use mathlib.Core.Path.{◌≡◌, ◌∙◌}
-use mathlib.Core.List.{List}
-use Prim.Native.Nat.{ℕ, ◌≤◌, ◌+◌, ◌-◌}
-use native.Mathlib.Omega.{arith}
-use borrow.Author.Rules.{rules}
-use lib.ListN.{length, length-set}
 use Rattle.grammar.specs.Tables.{right_of, tail_of}
-use Rattle.grammar.proofs.TableRight.{tail-short}
-use Rattle.grammar.proofs.StackLaw.{Partly, none_yet, one_more, tail-get}
+use Rattle.grammar.proofs.StackLaw.{Partly}
 use Rattle.grammar.proofs.push.Given as goal
 
 abbrev pub invariant-loop-k : goal.invariant-loop-k

@@ -1,7 +1,6 @@
 use mathlib.Core.Path.{◌≡◌, refl}
 use Prim.Native.Nat.{◌-◌, ◌+◌}
 use native.Mathlib.Omega.{arith}
-use borrow.Author.Rules.{rules}
 use lib.ListN.{length, length-set}
 use Rattle.grammar.proofs.StackLaw.{put_last}
 use Rattle.grammar.proofs.start.Goals as goal

@@ -1,6 +1,5 @@
 use mathlib.Core.Path.{refl}
 use native.Mathlib.Omega.{arith}
-use borrow.Author.Rules.{rules}
 use Rattle.grammar.specs.Grammar.{grammar}
 use Rattle.grammar.specs.Tables.{right_of}
 use Rattle.grammar.proofs.TableRight.{length_test, length-right}
