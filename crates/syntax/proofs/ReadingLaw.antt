@@ -2,19 +2,18 @@
 -- Assumes nothing.
 use mathlib.Core.Path.{◌≡◌, refl, ◌∙◌}
 use mathlib.Core.List.{List, [], ◌∷◌}
-use mathlib.Core.Bool.{Bool, true, false}
+use mathlib.Core.Bool.{true, false}
 use Prim.Native.Nat.{ℕ, zero, suc, ◌+◌, ◌-◌, ◌*◌, ◌<◌, ◌≤◌}
 use native.Mathlib.Omega.{arith}
 use native.Mathlib.Nat.{not-suc-le-zero}
 use native.Mathlib.Numerals.{unary_clauses}
 use lib.ListN.{length, drop, length-drop, drop_of_length-le}
 use Rattle.text.specs.Lex.{token_at}
-use Rattle.text.specs.declared.Token.{Token}
-use Rattle.grammar.specs.Machine.{Cell, fails, skips, takes, step}
-use Rattle.grammar.specs.Advance.{step_outcome, Started, Advanced}
+use Rattle.grammar.specs.Machine.{step}
+use Rattle.grammar.specs.Advance.{step_outcome, Started}
 use Rattle.syntax.specs.declared.Turn.{Turn}
 use Rattle.syntax.specs.Kinds.{kind_of}
-use Rattle.syntax.specs.Readings.{Reading, reading, labelled, readings_from}
+use Rattle.syntax.specs.Readings.{reading, labelled, readings_from}
 use Rattle.syntax.specs.Turns.{Turned}
 
 unrolled : (left : ℕ) (expected text : List ℕ) (at : ℕ) → 0 < left → 0 < length expected →

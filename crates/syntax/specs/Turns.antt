@@ -1,6 +1,6 @@
 -- What one turn of a reader's loop does: it reads a token, and the machine takes one step.
 -- Assumes nothing.
-use Rattle.std.specs.Prelude.{ℕ, ◌+◌, ◌≤◌, ◌≡◌, List, length, drop}
+use Rattle.std.specs.Prelude.{ℕ, ◌≡◌, List}
 use Rattle.text.specs.Lex.{token_at}
 use Rattle.grammar.specs.Advance.{Advanced}
 use Rattle.syntax.specs.declared.Turn.{Turn}

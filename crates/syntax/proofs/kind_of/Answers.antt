@@ -1,6 +1,5 @@
 use borrow.Author.Tests.{eq-eqb, ne_eqb}
 use Rattle.syntax.specs.Kinds.{token_kind, kind_of}
-use borrow.Author.Rules.{rules}
 use Rattle.syntax.proofs.kind_of.Goals as goal
 
 pub returns-then-t-eq0 : goal.returns-then-t-eq0

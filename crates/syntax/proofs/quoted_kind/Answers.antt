@@ -1,4 +1,3 @@
-use borrow.Author.Rules.{rules}
 use Rattle.syntax.specs.Kinds.{quoted_kind}
 use Rattle.syntax.proofs.quoted_kind.Goals as goal
 

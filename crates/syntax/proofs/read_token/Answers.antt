@@ -1,4 +1,3 @@
-use borrow.Author.Rules.{rules}
 use Rattle.syntax.proofs.read_token.Goals as goal
 
 pub returns : goal.returns

@@ -1,4 +1,3 @@
-use borrow.Author.Rules.{rules}
 use Rattle.syntax.specs.Kinds.{word_kind}
 use Rattle.syntax.proofs.word_kind.Goals as goal
 
