@@ -28,7 +28,7 @@ use Rattle.optable.specs.declared.Reducer.{Reducer}
 use Rattle.optable.specs.declared.Reducer.TheVariants.{Not, By}
 use Rattle.optable.specs.declared.Choice.TheVariants as choice
 use Rattle.optable.specs.Names.{same, name_place}
-use Rattle.optable.specs.Table.{OpRow, Named, Chosen, value, comparison_direction, compare_type, choice_named, attribute_kind, choice_form, said_at, choice_kind, direction_said, direction_at, ops, attributes, choice_kinds, choices, op_names, attribute_names, choice_kind_names, choice_names, names, table_bytes, places, no_word, word_at, rows_from, no_row, row_at, takes_code, takes_of, rule_code, rule_of, class_code, class_of, reducer_code, reducer_of, bit, entry_of, entry_at}
+use Rattle.optable.specs.Table.{OpRow, Named, Chosen, value, comparison_direction, compare_type, choice_named, attribute_kind, choice_form, said_at, direction_said, direction_at, ops, attributes, choice_kinds, choices, op_names, attribute_names, choice_kind_names, choice_names, names, table_bytes, places, no_word, word_at, rows_from, no_row, row_at, takes_code, takes_of, rule_code, rule_of, class_code, class_of, reducer_code, reducer_of, bit, entry_of, entry_at}
 
 -- ---- how many rows
 

@@ -1,7 +1,6 @@
 use mathlib.Core.Path.{refl, sym}
 use Rattle.optable.specs.Table.{attribute_kind, attributes}
 use Rattle.optable.proofs.TableLaw.{attribute-past}
-use borrow.Author.Rules.{rules}
 use Rattle.optable.proofs.attribute_kind.Goals as goal
 
 pub returns-then-k-lt-NONE : goal.returns-then-k-lt-NONE

@@ -1,7 +1,6 @@
 use mathlib.Core.Path.{refl, sym}
 use Rattle.optable.specs.Table.{choice_form, choice_kinds}
 use Rattle.optable.proofs.TableLaw.{form-past}
-use borrow.Author.Rules.{rules}
 use Rattle.optable.proofs.choice_form.Goals as goal
 
 pub returns-then-k-lt-NONE : goal.returns-then-k-lt-NONE

@@ -1,4 +1,3 @@
-use borrow.Author.Rules.{rules}
 use borrow.Author.Tests.{lt-ltb, le-ltb}
 use Rattle.optable.specs.Table.{choice_kind}
 use Rattle.optable.proofs.TableLaw.{choices-count}

@@ -1,5 +1,4 @@
 use mathlib.Core.Path.{sym}
-use borrow.Author.Rules.{rules}
 use Rattle.optable.specs.Table.{direction_at, choices}
 use Rattle.optable.proofs.TableLaw.{choices-count, direction-past}
 use Rattle.optable.proofs.direction_at.Goals as goal

@@ -1,7 +1,6 @@
 use Rattle.optable.proofs.ScanLaw.{stretch-none, stretch-stop}
 use Rattle.optable.specs.Find.{name_place}
 use mathlib.Core.Path.{ap, ◌∙◌}
-use borrow.Author.Rules.{rules}
 use Rattle.optable.proofs.find.Goals as goal
 
 pub returns-then-stop-start : goal.returns-then-stop-start

@@ -1,4 +1,3 @@
-use borrow.Author.Rules.{rules}
 use Rattle.optable.proofs.fits_rank.Goals as goal
 
 pub returns-then-scalars : goal.returns-then-scalars

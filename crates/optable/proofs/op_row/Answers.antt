@@ -1,6 +1,5 @@
 use mathlib.Core.Path.{sym, ◌∙◌}
 use Rattle.optable.proofs.TableLaw.{ops-count, first_small, rest-small, result-small, rule-in, class-in, reducer-in, row_back, row-past}
-use borrow.Author.Rules.{rules}
 use Rattle.optable.proofs.op_row.Goals as goal
 
 pub entry_at-e-requires : goal.entry_at-e-requires

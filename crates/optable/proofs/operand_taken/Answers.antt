@@ -1,6 +1,5 @@
 use borrow.Author.Tests.{eq-eqb, ne_eqb}
 use Rattle.optable.specs.Takes.{operand_taken}
-use borrow.Author.Rules.{rules}
 use Rattle.optable.proofs.operand_taken.Goals as goal
 
 pub returns-then-j-eq0 : goal.returns-then-j-eq0

@@ -1,4 +1,4 @@
-use mathlib.Core.Path.{◌≡◌, sym}
+use mathlib.Core.Path.{sym}
 use Prim.Native.Nat.{◌+◌, ◌<◌}
 use native.Mathlib.Omega.{arith}
 use Rattle.optable.specs.Table.{names, op_names, attribute_names, choice_kind_names, choice_names, ops, attributes, choice_kinds, choices}

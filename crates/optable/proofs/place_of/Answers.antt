@@ -2,11 +2,6 @@ use Rattle.optable.proofs.ScanLaw.{name-here, name-next, name-none}
 use Rattle.optable.proofs.TableLaw.{names-length, word-within}
 use native.Mathlib.Nat.{zero-add}
 use borrow.Author.Rules.{rules}
-use mathlib.Core.Path.{◌≡◌}
-use Prim.Native.Nat.{◌+◌, ◌≤◌, ◌-◌}
-use lib.ListN.{take, drop}
-use Rattle.optable.specs.Table.{names}
-use Rattle.optable.specs.Find.{name_place}
 use Rattle.optable.proofs.place_of.Goals as goal
 
 pub loop-k-init : goal.loop-k-init

@@ -1,7 +1,3 @@
-use Rattle.optable.proofs.ScanLaw.{name-here, name-next, name-none}
-use Rattle.optable.proofs.TableLaw.{names-length, word-within}
-use native.Mathlib.Nat.{zero-add}
-use borrow.Author.Rules.{rules}
 use mathlib.Core.Path.{◌≡◌}
 use Prim.Native.Nat.{◌+◌, ◌≤◌, ◌-◌}
 use lib.ListN.{take, drop}

@@ -1,6 +1,5 @@
 use mathlib.Core.Path.{refl}
 use Rattle.optable.specs.Table.{reducer_of}
-use borrow.Author.Rules.{rules}
 use Rattle.optable.proofs.reducer_of.Goals as goal
 
 pub returns : goal.returns

@@ -1,6 +1,5 @@
-use mathlib.Core.Path.{◌≡◌, refl}
+use mathlib.Core.Path.{refl}
 use Prim.Native.Nat.{◌<◌}
-use native.Mathlib.Omega.{arith}
 use Rattle.optable.specs.Table.{said_at, choices}
 use Rattle.optable.proofs.TableLaw.{choices-count}
 use borrow.Author.Rules.{rules}

@@ -1,10 +1,9 @@
 use Rattle.optable.proofs.TableLaw.{ops-count, row-place}
 use Rattle.optable.specs.Table.{ops, word_at}
 use native.Mathlib.Omega.{arith}
-use Prim.Native.Nat.{◌+◌, ◌-◌, ◌≤◌, ◌<◌}
+use Prim.Native.Nat.{◌+◌, ◌-◌}
 use mathlib.Core.Path.{◌≡◌, sym, ap, ◌∙◌}
 use lib.ListN.{length}
-use borrow.Author.Rules.{rules}
 use Rattle.optable.proofs.word_at.Goals as goal
 
 pub returns-then-i-lt-COUNT : goal.returns-then-i-lt-COUNT

@@ -1,11 +1,7 @@
 use Rattle.optable.proofs.ScanLaw.{lengths_differ, byte-differs, byte-same, bytes_same}
 use Rattle.optable.proofs.TableLaw.{bytes-length}
 use borrow.Author.Rules.{rules}
-use mathlib.Core.Path.{◌≡◌, refl}
-use Prim.Native.Nat.{◌≤◌, ◌-◌}
-use lib.ListN.{take, drop}
-use Rattle.optable.specs.Table.{table_bytes}
-use Rattle.optable.specs.Find.{same}
+use mathlib.Core.Path.{refl}
 use Rattle.optable.proofs.word_is.Goals as goal
 
 pub returns-then-bytes-len : goal.returns-then-bytes-len

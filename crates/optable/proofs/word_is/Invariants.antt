@@ -1,7 +1,4 @@
-use Rattle.optable.proofs.ScanLaw.{lengths_differ, byte-differs, byte-same, bytes_same}
-use Rattle.optable.proofs.TableLaw.{bytes-length}
-use borrow.Author.Rules.{rules}
-use mathlib.Core.Path.{◌≡◌, refl}
+use mathlib.Core.Path.{◌≡◌}
 use Prim.Native.Nat.{◌≤◌, ◌-◌}
 use lib.ListN.{take, drop}
 use Rattle.optable.specs.Table.{table_bytes}
