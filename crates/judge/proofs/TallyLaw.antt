@@ -3,13 +3,13 @@
 use mathlib.Core.Path.{◌≡◌, refl}
 use mathlib.Core.Bool.{Bool, true, false, ◌&&◌}
 use mathlib.Core.List.{List}
-use Prim.Native.Nat.{ℕ, ◌+◌, ◌-◌, ◌≤◌}
+use Prim.Native.Nat.{ℕ, ◌+◌, ◌≤◌}
 use native.Mathlib.Omega.{arith}
 use lib.Dec.{eqb}
 use borrow.Author.Tests.{eqb-true}
 use Rattle.lists.specs.Lists.{pick}
 use Rattle.text.specs.declared.Token.{Token}
-use Rattle.shape.specs.Index.{size, volume}
+use Rattle.shape.specs.Index.{size}
 use Rattle.shape.specs.Dims.{dims_of, Sized}
 use Rattle.shape.proofs.IndexLaw.{size-le-volume}
 use Rattle.types.specs.Tensors.{type_of}

@@ -1,15 +1,11 @@
-use mathlib.Core.Path.{◌≡◌, sym, ap, ◌∙◌}
+use mathlib.Core.Path.{◌≡◌}
 use Prim.Native.Nat.{◌+◌, ◌-◌, ◌≤◌}
-use native.Mathlib.Omega.{arith}
 use lib.ListN.{length, drop}
-use borrow.Author.Rules.{rules}
 use Rattle.grammar.specs.Symbols.{Program}
 use Rattle.syntax.specs.Readings.{readings_from, readings_of}
-use Rattle.syntax.proofs.ReadingLaw.{all_read, none_left, Room, room-first, room_next}
+use Rattle.syntax.proofs.ReadingLaw.{Room}
 use Rattle.judge.specs.Tally.{at_start, TallyWithin}
 use Rattle.judge.specs.Judge.{earliest}
-use Rattle.judge.proofs.TallyLaw.{within-start, within_more, within-next}
-use Rattle.judge.proofs.TurnLaw.{turn-refused, turn-taken}
 use Rattle.judge.proofs.earliest_refusal.Given as goal
 
 abbrev pub invariant-loop-left : goal.invariant-loop-left

@@ -1,4 +1,3 @@
-use borrow.Author.Rules.{rules}
 use borrow.Author.Tests.{eq-eqb, ne_eqb}
 use Rattle.judge.specs.Judge.{unknown}
 use Rattle.judge.proofs.NameLaw.{ops-count, attributes-count, choice-kinds-count, choices-count}

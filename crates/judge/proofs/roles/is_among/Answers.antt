@@ -1,9 +1,5 @@
-use mathlib.Core.Path.{◌≡◌, refl, sym, ◌∙◌}
-use Prim.Native.Nat.{◌-◌}
+use mathlib.Core.Path.{refl, sym, ◌∙◌}
 use native.Mathlib.Omega.{arith}
-use lib.ListN.{length, drop}
-use borrow.Author.Rules.{rules}
-use Rattle.judge.specs.Roles.{among_roles}
 use Rattle.judge.proofs.RoleLaw.{among-here, among_next, among-past}
 use Rattle.judge.proofs.roles.is_among.Goals as goal
 

@@ -1,10 +1,7 @@
-use mathlib.Core.Path.{◌≡◌, refl, sym, ◌∙◌}
+use mathlib.Core.Path.{◌≡◌}
 use Prim.Native.Nat.{◌-◌}
-use native.Mathlib.Omega.{arith}
 use lib.ListN.{length, drop}
-use borrow.Author.Rules.{rules}
 use Rattle.judge.specs.Roles.{among_roles}
-use Rattle.judge.proofs.RoleLaw.{among-here, among_next, among-past}
 use Rattle.judge.proofs.roles.is_among.Given as goal
 
 abbrev pub invariant-loop-i : goal.invariant-loop-i

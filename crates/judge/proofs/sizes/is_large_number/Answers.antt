@@ -1,4 +1,3 @@
-use borrow.Author.Rules.{rules}
 use Rattle.judge.specs.Sizes.{large_number}
 use Rattle.judge.proofs.sizes.is_large_number.Goals as goal
 

@@ -1,6 +1,5 @@
 use borrow.Author.Tests.{eq-eqb, ne_eqb}
 use Rattle.judge.specs.Sizes.{long_list}
-use borrow.Author.Rules.{rules}
 use Rattle.judge.proofs.sizes.is_long_list.Goals as goal
 
 pub returns-then-role-eq-LIST_NUMBER : goal.returns-then-role-eq-LIST_NUMBER

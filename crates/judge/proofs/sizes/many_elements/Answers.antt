@@ -1,6 +1,5 @@
 use Prim.Native.Nat.{◌≤◌}
 use native.Mathlib.Omega.{arith}
-use borrow.Author.Rules.{rules}
 use Rattle.judge.specs.Sizes.{many_elements}
 use Rattle.judge.proofs.TallyLaw.{elements-le}
 use Rattle.judge.proofs.sizes.many_elements.Goals as goal

@@ -1,5 +1,4 @@
 use Rattle.judge.specs.Sizes.{many_items}
-use borrow.Author.Rules.{rules}
 use Rattle.judge.proofs.sizes.many_items.Goals as goal
 
 pub returns-then-is_listed : goal.returns-then-is_listed

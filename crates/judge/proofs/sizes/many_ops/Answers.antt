@@ -1,6 +1,5 @@
 use borrow.Author.Tests.{eq-eqb, ne_eqb}
 use Rattle.judge.specs.Sizes.{many_ops}
-use borrow.Author.Rules.{rules}
 use Rattle.judge.proofs.sizes.many_ops.Goals as goal
 
 pub returns-then-role-eq-OP_NAME : goal.returns-then-role-eq-OP_NAME

@@ -1,4 +1,3 @@
-use borrow.Author.Rules.{rules}
 use borrow.Author.Tests.{eq-eqb, ne_eqb}
 use Rattle.judge.specs.Sizes.{size_passed, passes, first_passed}
 use Rattle.judge.proofs.sizes.size_passed.Goals as goal

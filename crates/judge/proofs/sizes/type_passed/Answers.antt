@@ -1,4 +1,3 @@
-use borrow.Author.Rules.{rules}
 use Rattle.judge.specs.Sizes.{type_passed}
 use Rattle.judge.proofs.sizes.type_passed.Goals as goal
 

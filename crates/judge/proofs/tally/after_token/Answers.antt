@@ -1,6 +1,5 @@
 use Prim.Native.Nat.{◌≤◌}
 use native.Mathlib.Omega.{arith}
-use borrow.Author.Rules.{rules}
 use Rattle.judge.specs.Tally.{after_token}
 use Rattle.judge.proofs.TallyLaw.{elements-le}
 use Rattle.judge.proofs.tally.after_token.Goals as goal

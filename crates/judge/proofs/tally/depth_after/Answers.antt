@@ -1,7 +1,6 @@
 use native.Mathlib.Omega.{arith}
 use borrow.Author.Tests.{eq-eqb, ne_eqb}
 use Rattle.judge.specs.Tally.{tally_depth}
-use borrow.Author.Rules.{rules}
 use Rattle.judge.proofs.tally.depth_after.Goals as goal
 
 pub returns-then-role-eq-BODY_OPEN : goal.returns-then-role-eq-BODY_OPEN

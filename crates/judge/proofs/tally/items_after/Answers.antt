@@ -1,5 +1,4 @@
 use Rattle.judge.specs.Tally.{items_after}
-use borrow.Author.Rules.{rules}
 use Rattle.judge.proofs.tally.items_after.Goals as goal
 
 pub returns-then-is_item : goal.returns-then-is_item

@@ -1,6 +1,5 @@
 use borrow.Author.Tests.{eq-eqb, ne_eqb}
 use Rattle.judge.specs.Tally.{ops_after}
-use borrow.Author.Rules.{rules}
 use Rattle.judge.proofs.tally.ops_after.Goals as goal
 
 pub returns-then-role-eq-OP_NAME : goal.returns-then-role-eq-OP_NAME
