@@ -13,7 +13,7 @@ use Rattle.scan.specs.Quantized.{sign_end, integer_end, fraction_end, scientific
 use Rattle.scan.specs.TensorText.{element_end, type_close}
 use Rattle.text.specs.Lex.{mark_token, name_end, name_token, sign_token, quote_token, plain_word, tensor_token, word_token, lexeme, token_at}
 use Rattle.text.specs.Names.{word_is}
-use Rattle.grammar.specs.Symbols.{Op, FunctionName, End, func, lparen, rparen, lbrace, rbrace, leaf_kinds, matches}
+use Rattle.grammar.specs.Symbols.{leaf_kinds, matches}
 use Rattle.grammar.specs.Grammar.{grammar}
 use Rattle.grammar.specs.Machine.{cell, step}
 use Rattle.grammar.proofs.TableTest.{both}

@@ -1,4 +1,3 @@
-use borrow.Author.Rules.{rules}
 use borrow.Author.Tests.{lt-ltb, le-ltb}
 use Rattle.program.specs.Parts.{added_to}
 use Rattle.program.proofs.added_to.Goals as goal

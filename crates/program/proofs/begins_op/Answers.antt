@@ -1,4 +1,3 @@
-use borrow.Author.Rules.{rules}
 use borrow.Author.Tests.{eq-eqb, ne_eqb}
 use Rattle.program.specs.Program.{begins_op}
 use Rattle.program.proofs.begins_op.Goals as goal

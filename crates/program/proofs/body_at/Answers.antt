@@ -1,4 +1,3 @@
-use borrow.Author.Rules.{rules}
 use Rattle.program.specs.Parts.{body_at}
 use Rattle.program.proofs.body_at.Goals as goal
 

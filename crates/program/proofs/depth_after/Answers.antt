@@ -1,5 +1,4 @@
 use native.Mathlib.Omega.{arith}
-use borrow.Author.Rules.{rules}
 use borrow.Author.Tests.{eq-eqb, ne_eqb}
 use Rattle.program.specs.Parts.{depth_after}
 use Rattle.program.proofs.depth_after.Goals as goal

@@ -1,4 +1,3 @@
-use borrow.Author.Rules.{rules}
 use Rattle.program.specs.Program.{no_program}
 use Rattle.program.proofs.empty_program.Goals as goal
 

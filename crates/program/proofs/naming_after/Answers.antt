@@ -1,4 +1,3 @@
-use borrow.Author.Rules.{rules}
 use borrow.Author.Tests.{eq-eqb, ne_eqb}
 use Rattle.program.specs.Program.{naming_after}
 use Rattle.program.proofs.naming_after.Goals as goal

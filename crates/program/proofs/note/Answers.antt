@@ -1,4 +1,3 @@
-use borrow.Author.Rules.{rules}
 use borrow.Author.Tests.{lt-ltb, le-ltb}
 use Rattle.program.specs.Parts.{noted}
 use Rattle.program.proofs.note.Goals as goal

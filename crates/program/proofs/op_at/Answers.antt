@@ -1,4 +1,3 @@
-use borrow.Author.Rules.{rules}
 use Rattle.program.specs.Parts.{op_at}
 use Rattle.program.proofs.op_at.Goals as goal
 

@@ -1,4 +1,3 @@
-use borrow.Author.Rules.{rules}
 use Rattle.program.specs.Program.{outlined}
 use Rattle.program.proofs.outline.Goals as goal
 

@@ -1,12 +1,11 @@
-use mathlib.Core.Path.{◌≡◌, sym, ap, ◌∙◌}
-use mathlib.Core.Bool.{false}
-use Prim.Native.Nat.{◌+◌, ◌≤◌}
+use mathlib.Core.Path.{sym, ap, ◌∙◌}
+use Prim.Native.Nat.{◌+◌}
 use native.Mathlib.Omega.{arith}
 use borrow.Author.Rules.{rules}
 use borrow.Author.Tests.{not-true, not-false}
 use lib.ListN.{length, drop}
-use Rattle.syntax.specs.Readings.{readings_from, readings_of, readings}
-use Rattle.syntax.proofs.ReadingLaw.{all_read, none_left, turn-wrong, turn-right, Room, room-first, room_next}
+use Rattle.syntax.specs.Readings.{readings_from, readings_of}
+use Rattle.syntax.proofs.ReadingLaw.{all_read, none_left, turn-wrong, turn-right, room-first, room_next}
 use Rattle.program.specs.Parts.{no_parts, parts_from, parts_of}
 use Rattle.program.proofs.FoldLaw.{depth-next, parts_next, parts-stop}
 use Rattle.program.proofs.parts_of.Goals as goal

@@ -1,14 +1,9 @@
-use mathlib.Core.Path.{◌≡◌, sym, ap, ◌∙◌}
-use mathlib.Core.Bool.{false}
+use mathlib.Core.Path.{◌≡◌}
 use Prim.Native.Nat.{◌+◌, ◌≤◌}
-use native.Mathlib.Omega.{arith}
-use borrow.Author.Rules.{rules}
-use borrow.Author.Tests.{not-true, not-false}
 use lib.ListN.{length, drop}
-use Rattle.syntax.specs.Readings.{readings_from, readings_of, readings}
-use Rattle.syntax.proofs.ReadingLaw.{all_read, none_left, turn-wrong, turn-right, Room, room-first, room_next}
-use Rattle.program.specs.Parts.{no_parts, parts_from, parts_of}
-use Rattle.program.proofs.FoldLaw.{depth-next, parts_next, parts-stop}
+use Rattle.syntax.specs.Readings.{readings_from}
+use Rattle.syntax.proofs.ReadingLaw.{Room}
+use Rattle.program.specs.Parts.{parts_from, parts_of}
 use Rattle.program.proofs.parts_of.Given as goal
 
 abbrev pub invariant-loop-left : goal.invariant-loop-left
