@@ -1,4 +1,3 @@
-use borrow.Author.Rules.{rules}
 use Rattle.attribute.specs.Attribute.{choice_at}
 use Rattle.attribute.proofs.choice_at.Goals as goal
 

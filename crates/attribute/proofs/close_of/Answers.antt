@@ -1,8 +1,5 @@
-use mathlib.Core.Path.{◌≡◌, refl, sym, ◌∙◌}
+use mathlib.Core.Path.{refl, sym, ◌∙◌}
 use native.Mathlib.Omega.{arith}
-use borrow.Author.Rules.{rules}
-use lib.ListN.{length}
-use Rattle.attribute.specs.Attribute.{close_from}
 use Rattle.attribute.proofs.ScanLaw.{close-stop, close_more, close-none}
 use Rattle.attribute.proofs.close_of.Goals as goal
 

@@ -1,9 +1,6 @@
-use mathlib.Core.Path.{◌≡◌, refl, sym, ◌∙◌}
-use native.Mathlib.Omega.{arith}
-use borrow.Author.Rules.{rules}
+use mathlib.Core.Path.{◌≡◌}
 use lib.ListN.{length}
 use Rattle.attribute.specs.Attribute.{close_from}
-use Rattle.attribute.proofs.ScanLaw.{close-stop, close_more, close-none}
 use Rattle.attribute.proofs.close_of.Given as goal
 
 abbrev pub invariant-loop-left : goal.invariant-loop-left

@@ -1,4 +1,3 @@
-use borrow.Author.Rules.{rules}
 use Rattle.attribute.specs.Attribute.{dense_tokens}
 use Rattle.attribute.proofs.dense_at.Goals as goal
 

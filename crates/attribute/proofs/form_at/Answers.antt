@@ -1,4 +1,3 @@
-use borrow.Author.Rules.{rules}
 use borrow.Author.Tests.{eq-eqb, ne_eqb}
 use Rattle.attribute.specs.Attribute.{form_at}
 use Rattle.attribute.proofs.form_at.Goals as goal

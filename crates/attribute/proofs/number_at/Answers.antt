@@ -1,4 +1,3 @@
-use borrow.Author.Rules.{rules}
 use Rattle.attribute.specs.Attribute.{number_at}
 use Rattle.attribute.proofs.number_at.Goals as goal
 

@@ -1,4 +1,3 @@
-use borrow.Author.Rules.{rules}
 use Rattle.cursor.specs.Cursor.{cursor_after}
 use Rattle.attribute.specs.Attribute.{numbers_at}
 use Rattle.attribute.proofs.numbers_at.Goals as goal

@@ -1,9 +1,5 @@
-use mathlib.Core.Path.{◌≡◌, refl, sym, ◌∙◌}
-use native.Mathlib.Omega.{arith}
-use borrow.Author.Rules.{rules}
+use mathlib.Core.Path.{◌≡◌}
 use Rattle.attribute.specs.Attribute.{none_read, numbers_from}
-use Rattle.cursor.specs.Cursor.{token_of, cursor_after}
-use Rattle.attribute.proofs.ScanLaw.{numbers_more, numbers-stop, numbers-none}
 use Rattle.attribute.proofs.numbers_from.Given as goal
 
 abbrev pub invariant-loop-left : goal.invariant-loop-left

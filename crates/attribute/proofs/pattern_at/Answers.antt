@@ -1,5 +1,4 @@
 use mathlib.Core.Path.{ap}
-use borrow.Author.Rules.{rules}
 use Rattle.types.specs.declared.numbers.Number.{Number}
 use Rattle.attribute.specs.Attribute.{pattern_at}
 use Rattle.attribute.proofs.pattern_at.Goals as goal

@@ -1,7 +1,5 @@
-use mathlib.Core.Path.{◌≡◌, refl, sym, ◌∙◌}
+use mathlib.Core.Path.{refl, sym, ◌∙◌}
 use native.Mathlib.Omega.{arith}
-use borrow.Author.Rules.{rules}
-use Rattle.attribute.specs.Attribute.{token_after}
 use Rattle.attribute.proofs.ScanLaw.{after-step, after_none}
 use Rattle.attribute.proofs.token_after.Goals as goal
 

@@ -1,8 +1,5 @@
-use mathlib.Core.Path.{◌≡◌, refl, sym, ◌∙◌}
-use native.Mathlib.Omega.{arith}
-use borrow.Author.Rules.{rules}
+use mathlib.Core.Path.{◌≡◌}
 use Rattle.attribute.specs.Attribute.{token_after}
-use Rattle.attribute.proofs.ScanLaw.{after-step, after_none}
 use Rattle.attribute.proofs.token_after.Given as goal
 
 abbrev pub invariant-loop-left : goal.invariant-loop-left

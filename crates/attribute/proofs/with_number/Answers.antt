@@ -1,4 +1,3 @@
-use borrow.Author.Rules.{rules}
 use borrow.Author.Tests.{lt-ltb, le-ltb}
 use Rattle.attribute.specs.Attribute.{with_number}
 use Rattle.attribute.proofs.with_number.Goals as goal

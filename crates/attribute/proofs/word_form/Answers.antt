@@ -1,4 +1,3 @@
-use borrow.Author.Rules.{rules}
 use Rattle.attribute.specs.Attribute.{word_form}
 use Rattle.attribute.proofs.word_form.Goals as goal
 
