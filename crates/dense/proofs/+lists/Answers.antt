@@ -4,13 +4,8 @@ use native.Mathlib.Omega.{arith}
 use mir.Syntax.{w64}
 use mir.Val.{Fits}
 use lib.ListN.{length, get_or}
-use lib.Dec.{eqb}
-use Rattle.shape.specs.Index.{rest}
-use Rattle.laid.specs.Laid.{laid}
-use Rattle.dense.specs.Dense.{items_at, dense_at}
-use Rattle.dense.specs.Filled.{after}
 use Rattle.dense.proofs.ReadLaw.{close-items, no-separator, no_item, next-item, dense-one, no-bracket, first-item}
-use Prim.Native.Nat.{ℕ, ◌<◌, ◌≤◌, ◌-◌}
+use Prim.Native.Nat.{◌≤◌, ◌-◌}
 use Rattle.dense.proofs.+lists.Goals as goal
 
 pub shape_of-out-then-k-eq0 : goal.shape_of-out-then-k-eq0

@@ -1,5 +1,4 @@
 use Rattle.dense.specs.Dense.{boolean_of}
-use borrow.Author.Rules.{rules}
 use Rattle.dense.proofs.boolean.Goals as goal
 
 pub returns-then-is_true : goal.returns-then-is_true

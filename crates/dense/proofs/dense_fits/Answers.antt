@@ -1,5 +1,4 @@
 use Rattle.dense.proofs.ValueLaw.{lists-ok, literal-ok}
-use borrow.Author.Rules.{rules}
 use Rattle.dense.proofs.dense_fits.Goals as goal
 
 pub returns-then-t-eq91 : goal.returns-then-t-eq91

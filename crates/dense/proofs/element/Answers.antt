@@ -1,7 +1,6 @@
 use Rattle.laid.proofs.LaidLaw.{lay-none, lay-one}
 use Rattle.dense.specs.Dense.{one_at}
 use Rattle.dense.specs.Filled.{after}
-use borrow.Author.Rules.{rules}
 use Rattle.dense.proofs.element.Goals as goal
 
 pub returns-then-v : goal.returns-then-v

@@ -1,6 +1,5 @@
 use borrow.Author.Tests.{eq-eqb, ne_eqb}
 use Rattle.dense.specs.Dense.{literal_of}
-use borrow.Author.Rules.{rules}
 use Rattle.dense.proofs.literal.Goals as goal
 
 pub returns-then-is_bool : goal.returns-then-is_bool

@@ -1,5 +1,4 @@
 use Rattle.dense.specs.Dense.{mark_at}
-use borrow.Author.Rules.{rules}
 use Rattle.dense.proofs.mark.Goals as goal
 
 pub returns : goal.returns

@@ -1,5 +1,4 @@
 use Rattle.dense.proofs.ValueLaw.{lists_filled, literal-filled, literal-refused}
-use borrow.Author.Rules.{rules}
 use Rattle.dense.proofs.read_dense.Goals as goal
 
 pub returns-then-t-eq91 : goal.returns-then-t-eq91

@@ -1,6 +1,5 @@
 use borrow.Author.Tests.{eq-eqb, ne_eqb}
 use Rattle.dense.specs.Dense.{comma_before, mark_at}
-use borrow.Author.Rules.{rules}
 use Rattle.dense.proofs.separator.Goals as goal
 
 pub returns-then-j-eq0 : goal.returns-then-j-eq0
