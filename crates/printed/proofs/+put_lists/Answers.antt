@@ -1,16 +1,12 @@
 use borrow.Author.Rules.{rules}
 use mathlib.Core.Path.{◌≡◌, refl, ◌∙◌}
-use mathlib.Core.List.{[], ◌∷◌, ◌++◌}
 use native.Mathlib.Omega.{arith}
 use mir.Syntax.{w64}
 use mir.Val.{Fits}
-use lib.Dec.{eqb}
-use lib.ListN.{length, get_or, drop}
+use lib.ListN.{length, get_or}
 use Rattle.shape.specs.Index.{size, rest}
-use Rattle.laid.specs.Laid.{laid, lay}
-use Rattle.printed.specs.Printed.{items_text, value_text}
 use Rattle.printed.proofs.PrintLaw.{left_step, left_end, next-item, close-items, size_none, value-one, first-left, first-item}
-use Prim.Native.Nat.{ℕ, ◌<◌, ◌≤◌, ◌+◌, ◌-◌, ◌*◌}
+use Prim.Native.Nat.{◌≤◌, ◌-◌}
 use Rattle.printed.proofs.+put_lists.Goals as goal
 
 pub bounds-slots-slot : goal.bounds-slots-slot

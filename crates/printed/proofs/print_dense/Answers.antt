@@ -7,7 +7,6 @@ use Rattle.laid.proofs.LaidLaw.{lay-room}
 use Rattle.shape.specs.Dims.{dims_of}
 use lib.ListN.{length, length-take}
 use Prim.Native.Nat.{◌≤◌}
-use borrow.Author.Rules.{rules}
 use Rattle.printed.proofs.print_dense.Goals as goal
 
 pub put_lists-r-requires : goal.put_lists-r-requires

@@ -1,6 +1,5 @@
 use Rattle.printed.specs.Printed.{element_text}
 use Rattle.printed.proofs.PrintLaw.{then-lay, then-put}
-use borrow.Author.Rules.{rules}
 use Rattle.printed.proofs.put_element.Goals as goal
 
 pub returns : goal.returns

@@ -1,5 +1,4 @@
 use Rattle.printed.specs.Printed.{literal_text}
-use borrow.Author.Rules.{rules}
 use Rattle.printed.proofs.put_literal.Goals as goal
 
 pub returns-then-is_bool : goal.returns-then-is_bool

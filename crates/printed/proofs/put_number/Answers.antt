@@ -1,6 +1,5 @@
 use mathlib.Core.Path.{sym, ◌∙◌}
 use Rattle.printed.proofs.PrintLaw.{then-put, text-plain, text-negative}
-use borrow.Author.Rules.{rules}
 use Rattle.printed.proofs.put_number.Goals as goal
 
 pub returns-then-is_negative : goal.returns-then-is_negative

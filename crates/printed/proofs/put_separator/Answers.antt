@@ -1,7 +1,6 @@
 use borrow.Author.Tests.{eq-eqb, ne_eqb}
 use mathlib.Core.Path.{sym}
 use Rattle.laid.proofs.LaidLaw.{lay-none}
-use borrow.Author.Rules.{rules}
 use Rattle.printed.proofs.put_separator.Goals as goal
 
 pub returns-then-j-eq0 : goal.returns-then-j-eq0

@@ -1,11 +1,8 @@
 use borrow.Author.Rules.{rules}
 use mathlib.Core.Path.{◌≡◌, refl, ◌∙◌}
-use Prim.Native.Nat.{◌≤◌, ◌-◌}
+use Prim.Native.Nat.{◌≤◌}
 use native.Mathlib.Omega.{arith}
-use lib.ListN.{length, take}
-use Rattle.shape.specs.Index.{rest}
-use Rattle.laid.specs.Laid.{laid, lay}
-use Rattle.printed.specs.Printed.{shape_text}
+use lib.ListN.{length}
 use Rattle.printed.proofs.PrintLaw.{shape-step, shape-end}
 use Rattle.printed.proofs.put_shape.Goals as goal
 

@@ -1,12 +1,9 @@
-use borrow.Author.Rules.{rules}
-use mathlib.Core.Path.{◌≡◌, refl, ◌∙◌}
+use mathlib.Core.Path.{◌≡◌}
 use Prim.Native.Nat.{◌≤◌, ◌-◌}
-use native.Mathlib.Omega.{arith}
 use lib.ListN.{length, take}
 use Rattle.shape.specs.Index.{rest}
 use Rattle.laid.specs.Laid.{laid, lay}
 use Rattle.printed.specs.Printed.{shape_text}
-use Rattle.printed.proofs.PrintLaw.{shape-step, shape-end}
 use Rattle.printed.proofs.put_shape.Given as goal
 
 abbrev pub invariant-loop-d : goal.invariant-loop-d

@@ -1,6 +1,5 @@
 use mathlib.Core.Path.{sym, ◌∙◌}
 use Rattle.laid.proofs.LaidLaw.{lay-none, lay-one}
-use borrow.Author.Rules.{rules}
 use Rattle.printed.proofs.put_sign.Goals as goal
 
 pub returns-then-has_sign : goal.returns-then-has_sign

@@ -1,9 +1,5 @@
-use borrow.Author.Rules.{rules}
-use mathlib.Core.Path.{◌≡◌, refl, ◌∙◌}
-use Prim.Native.Nat.{◌≤◌, ◌-◌}
+use mathlib.Core.Path.{refl, ◌∙◌}
 use native.Mathlib.Omega.{arith}
-use lib.ListN.{length, drop}
-use Rattle.laid.specs.Laid.{laid, lay}
 use Rattle.printed.proofs.PrintLaw.{text-step, text-end}
 use Rattle.printed.proofs.put_text.Goals as goal
 
