@@ -8,7 +8,7 @@ use native.Mathlib.Decide.{dec_lt}
 use native.Mathlib.Omega.{arith}
 use lib.ListN.{length, take, length-take}
 use lib.Seq.{get_or-take}
-use Rattle.shape.specs.Index.{at, volume}
+use Rattle.shape.specs.Index.{at}
 use Rattle.shape.specs.Dims.{dims_of, Sized}
 use Rattle.shape.specs.declared.Shape.{Shape}
 use Rattle.shape.proofs.IndexLaw.{dim-le-volume}

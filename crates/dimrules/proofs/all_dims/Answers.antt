@@ -1,5 +1,4 @@
 use Rattle.dimrules.specs.Count.{everywhere}
-use borrow.Author.Rules.{rules}
 use Rattle.dimrules.proofs.all_dims.Goals as goal
 
 pub returns : goal.returns

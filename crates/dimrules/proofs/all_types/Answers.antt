@@ -1,6 +1,5 @@
 use Rattle.dimrules.specs.Types.{all_types}
 use Rattle.dimrules.specs.Count.{everywhere}
-use borrow.Author.Rules.{rules}
 use Rattle.dimrules.proofs.all_types.Goals as goal
 
 pub returns : goal.returns

@@ -7,7 +7,6 @@ use mathlib.Core.Path.{◌≡◌, sym, ap, ◌∙◌}
 use native.Mathlib.Nat.{div-le_self}
 use native.Mathlib.Omega.{arith}
 use Rattle.dimrules.specs.Whole.{ceiling_is}
-use borrow.Author.Rules.{rules}
 use Rattle.dimrules.proofs.ceiling_is.Goals as goal
 
 pub returns-then-stride-eq0 : goal.returns-then-stride-eq0

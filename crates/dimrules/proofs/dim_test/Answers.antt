@@ -1,6 +1,5 @@
 use Rattle.dimrules.proofs.ReadLaw.{dim-small}
 use Rattle.dimrules.specs.Dims.{dim_test}
-use borrow.Author.Rules.{rules}
 use Rattle.dimrules.proofs.dim_test.Goals as goal
 
 pub padded_is-requires : goal.padded_is-requires

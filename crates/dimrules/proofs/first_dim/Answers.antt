@@ -1,9 +1,7 @@
-use Rattle.dimrules.proofs.CountLaw.{Reached, reach-none, reach-next, reach_here, reach-end}
+use Rattle.dimrules.proofs.CountLaw.{reach-none, reach-next, reach_here, reach-end}
 use Rattle.dimrules.specs.Dims.{dim_test}
 use native.Mathlib.Omega.{arith}
-use Prim.Native.Nat.{◌≤◌, ◌-◌}
 use mathlib.Core.Path.{sym, ◌∙◌}
-use borrow.Author.Rules.{rules}
 use Rattle.dimrules.proofs.first_dim.Goals as goal
 
 pub loop-d-init : goal.loop-d-init

@@ -1,10 +1,6 @@
-use Rattle.dimrules.proofs.CountLaw.{Reached, reach-none, reach-next, reach_here, reach-end}
+use Rattle.dimrules.proofs.CountLaw.{Reached}
 use Rattle.dimrules.specs.Dims.{dim_test}
-use borrow.Author.Tests.{not-true, not-false}
-use native.Mathlib.Omega.{arith}
 use Prim.Native.Nat.{◌≤◌, ◌-◌}
-use mathlib.Core.Path.{sym, ◌∙◌}
-use borrow.Author.Rules.{rules}
 use Rattle.dimrules.proofs.first_dim.Given as goal
 
 abbrev pub invariant-loop-d : goal.invariant-loop-d

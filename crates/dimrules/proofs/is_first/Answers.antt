@@ -1,5 +1,4 @@
 use Rattle.dimrules.specs.Dims.{is_first}
-use borrow.Author.Rules.{rules}
 use Rattle.dimrules.proofs.is_first.Goals as goal
 
 pub returns : goal.returns

@@ -2,11 +2,9 @@ use Rattle.dimrules.proofs.CountLaw.{count-in, count-out}
 use Rattle.dimrules.specs.Dims.{list_of, kept_below}
 use Rattle.shape.specs.Place.{is_in, count_below}
 use native.Mathlib.Omega.{arith}
-use Prim.Native.Nat.{ℕ, ◌≤◌, ◌-◌, ◌+◌}
-use mathlib.Core.Logic.{⊎_elim}
+use Prim.Native.Nat.{ℕ, ◌+◌}
 use mathlib.Core.Bool.{not}
 use mathlib.Core.Path.{◌≡◌, refl, sym, ap, ◌∙◌}
-use borrow.Author.Rules.{rules}
 use Rattle.dimrules.proofs.kept_below.Goals as goal
 use Rattle.dimrules.proofs.kept_below.Goals.{then-not-is_in, else-not-is_in}
 
@@ -20,7 +18,7 @@ loop-e-preserved c =
     let i = c.loop-e.invariant.1 in (
       omega arith,
       elim c.if-not-is_in.branch [
-          then-not-is_in w ↦ w.p-is ∙ ap (λ (x : ℕ). x + 1) i ∙ sym (count-in (λ k. not (is_in (list_of s.args.a) k)) e (ap not (sym c.is_in.ensures ∙ w.if-not-is_in.true)))
+        | then-not-is_in w ↦ w.p-is ∙ ap (λ (x : ℕ). x + 1) i ∙ sym (count-in (λ k. not (is_in (list_of s.args.a) k)) e (ap not (sym c.is_in.ensures ∙ w.if-not-is_in.true)))
         | else-not-is_in w ↦ w.p-is ∙ i ∙ sym (count-out (λ k. not (is_in (list_of s.args.a) k)) e (ap not (sym c.is_in.ensures ∙ w.if-not-is_in.false)))
       ],
       elim c.if-not-is_in.branch [ then-not-is_in w ↦ omega arith | else-not-is_in w ↦ omega arith ],

@@ -1,12 +1,8 @@
-use Rattle.dimrules.proofs.CountLaw.{count-in, count-out}
-use Rattle.dimrules.specs.Dims.{list_of, kept_below}
+use Rattle.dimrules.specs.Dims.{list_of}
 use Rattle.shape.specs.Place.{is_in, count_below}
-use native.Mathlib.Omega.{arith}
-use Prim.Native.Nat.{ℕ, ◌≤◌, ◌-◌, ◌+◌}
-use mathlib.Core.Logic.{⊎_elim}
+use Prim.Native.Nat.{◌≤◌, ◌-◌}
 use mathlib.Core.Bool.{not}
-use mathlib.Core.Path.{◌≡◌, refl, sym, ap, ◌∙◌}
-use borrow.Author.Rules.{rules}
+use mathlib.Core.Path.{◌≡◌}
 use Rattle.dimrules.proofs.kept_below.Given as goal
 
 abbrev pub invariant-loop-e : goal.invariant-loop-e

@@ -1,5 +1,4 @@
 use Rattle.dimrules.specs.Dims.{kept_is}
-use borrow.Author.Rules.{rules}
 use Rattle.dimrules.proofs.kept_is.Goals as goal
 
 pub returns : goal.returns

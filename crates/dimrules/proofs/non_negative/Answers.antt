@@ -4,7 +4,7 @@ use lib.IntN.{pos, negsuc}
 use mathlib.Core.Path.{◌≡◌, refl}
 use mathlib.Core.Bool.{Bool, true, false}
 use Prim.Native.Nat.{ℕ, ◌^◌}
-use lib.Dec.{ltb, leb, leb-zero}
+use lib.Dec.{ltb, leb-zero}
 use Rattle.dimrules.specs.Whole.{non_negative}
 use Rattle.dimrules.proofs.non_negative.Goals as goal
 

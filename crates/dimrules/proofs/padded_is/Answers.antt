@@ -1,9 +1,7 @@
 use Rattle.dimrules.proofs.WholeLaw.{pad-sums}
-use Prim.Native.Nat.{◌-◌}
 use lib.Dec.{leb-zero}
 use Rattle.dimrules.specs.Whole.{padded_is}
 use borrow.Author.Tests.{lt-ltb, le-ltb}
-use borrow.Author.Rules.{rules}
 use Rattle.dimrules.proofs.padded_is.Goals as goal
 
 pub returns-then-interior-ge9223372036854775808 : goal.returns-then-interior-ge9223372036854775808

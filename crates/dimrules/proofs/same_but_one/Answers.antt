@@ -1,6 +1,5 @@
 use Rattle.dimrules.specs.Types.{same_but_one}
 use native.Mathlib.Omega.{arith}
-use borrow.Author.Rules.{rules}
 use Rattle.dimrules.proofs.same_but_one.Goals as goal
 
 pub all_dims-requires : goal.all_dims-requires

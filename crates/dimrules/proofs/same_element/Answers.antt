@@ -1,5 +1,4 @@
 use Rattle.dimrules.specs.Types.{same_element}
-use borrow.Author.Rules.{rules}
 use Rattle.dimrules.proofs.same_element.Goals as goal
 
 pub returns : goal.returns

@@ -1,6 +1,5 @@
 use Rattle.dimrules.specs.Types.{same_shape}
 use native.Mathlib.Omega.{arith}
-use borrow.Author.Rules.{rules}
 use Rattle.dimrules.proofs.same_shape.Goals as goal
 
 pub all_dims-requires : goal.all_dims-requires

@@ -1,5 +1,4 @@
 use Rattle.dimrules.specs.Types.{same_type}
-use borrow.Author.Rules.{rules}
 use Rattle.dimrules.proofs.same_type.Goals as goal
 
 pub returns : goal.returns

@@ -1,7 +1,6 @@
 use mathlib.Core.Path.{refl}
 use native.Mathlib.Omega.{arith}
 use borrow.Author.Tests.{lt-ltb, le-ltb}
-use borrow.Author.Rules.{rules}
 use Rattle.dimrules.proofs.split.Goals as goal
 
 pub returns-then-w-lt9223372036854775808 : goal.returns-then-w-lt9223372036854775808

@@ -4,9 +4,8 @@ use Rattle.dimrules.specs.Types.{type_at, sum_of_dims}
 use Rattle.dimrules.specs.Dims.{dim}
 use Rattle.dimrules.specs.Count.{sum_below}
 use native.Mathlib.Omega.{arith}
-use Prim.Native.Nat.{ℕ, ◌≤◌, ◌-◌, ◌+◌, ◌*◌}
+use Prim.Native.Nat.{ℕ, ◌+◌}
 use mathlib.Core.Path.{◌≡◌, refl, sym, ap, ◌∙◌}
-use borrow.Author.Rules.{rules}
 use Rattle.dimrules.proofs.sum_dims.Goals as goal
 
 pub loop-j-init : goal.loop-j-init

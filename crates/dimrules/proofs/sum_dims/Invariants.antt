@@ -1,12 +1,8 @@
-use Rattle.dimrules.proofs.ReadLaw.{dim-small}
-use Rattle.dimrules.proofs.CountLaw.{sum-next}
-use Rattle.dimrules.specs.Types.{type_at, sum_of_dims}
+use Rattle.dimrules.specs.Types.{type_at}
 use Rattle.dimrules.specs.Dims.{dim}
 use Rattle.dimrules.specs.Count.{sum_below}
-use native.Mathlib.Omega.{arith}
-use Prim.Native.Nat.{ℕ, ◌≤◌, ◌-◌, ◌+◌, ◌*◌}
-use mathlib.Core.Path.{◌≡◌, refl, sym, ap, ◌∙◌}
-use borrow.Author.Rules.{rules}
+use Prim.Native.Nat.{◌≤◌, ◌-◌, ◌*◌}
+use mathlib.Core.Path.{◌≡◌}
 use Rattle.dimrules.proofs.sum_dims.Given as goal
 
 abbrev pub invariant-loop-j : goal.invariant-loop-j

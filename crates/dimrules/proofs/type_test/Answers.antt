@@ -1,5 +1,4 @@
 use Rattle.dimrules.specs.Types.{type_test}
-use borrow.Author.Rules.{rules}
 use Rattle.dimrules.proofs.type_test.Goals as goal
 
 pub returns-in-SameElement : goal.returns-in-SameElement
