@@ -2,7 +2,7 @@
 -- Assumes nothing.
 use mathlib.Core.Path.{◌≡◌, refl, sym, ap, ◌∙◌, subst}
 use mathlib.Core.List.{List, [], ◌∷◌}
-use mathlib.Core.Bool.{Bool, true, ◌&&◌}
+use mathlib.Core.Bool.{Bool, true}
 use Prim.Native.Nat.{ℕ, ◌<◌}
 use lib.ListN.{length, get_or}
 use lib.Dec.{eqb}
@@ -19,7 +19,7 @@ use Rattle.dimrules.specs.declared.TensorType.{TensorType}
 use Rattle.dimrules.specs.declared.DimTest.TheVariants.{Same}
 use Rattle.dimrules.proofs.CountLaw.{holds_at}
 use Rattle.checks.specs.Check.{Term, is, missing, equal, fact, check_holds}
-use Rattle.checks.specs.Formula.{shape, rank, entries, ◌and◌, ◌[=]◌, same_elements, same_types}
+use Rattle.checks.specs.Formula.{shape, rank, entries, ◌[=]◌, same_elements, same_types}
 use Rattle.checks.specs.Meaning.{Compares}
 use Rattle.checks.proofs.CheckLaw.{and-true, same_tests, holds-and, holds-once, everywhere-all}
 use Rattle.checks.proofs.ReadingLaw.{lists-true, true-lists}
