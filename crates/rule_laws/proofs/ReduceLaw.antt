@@ -29,7 +29,7 @@ use Rattle.checks.proofs.ReadingLaw.{shape-at, shape-row-true, true-shape-row}
 use Rattle.checks.proofs.AxesLaw.{left_below, leaving-long, left_less, leaving-at, leaving-from}
 use Rattle.checks.specs.Check.{broken_number}
 use Rattle.op_checks.specs.OpChecks.{reduce_checks}
-use Rattle.checks.proofs.TypeLaw.{◌at◌, dim_of}
+use Rattle.checks.proofs.TypeLaw.{dim_of}
 use Rattle.rule_laws.proofs.AlikeLaw.{alike-first}
 use Rattle.checks.proofs.TypeLaw.{equal_is, is-equal, is_same}
 use Rattle.rule_laws.proofs.DimensionsLaw.{indexes-same, unique-same, plain-apart, among-is, kept-is-left}
