@@ -1,7 +1,7 @@
 -- ceil_z is the ceiling, both ways: the lowest whole number whose product with the divisor is at least the dividend.
 -- Assumes nothing.
 use mathlib.Core.Path.{◌≡◌, refl, sym, ap, ◌∙◌, subst}
-use mathlib.Core.Bool.{true, false, false≢true}
+use mathlib.Core.Bool.{false≢true}
 use Prim.Native.Nat.{ℕ, zero, suc, ◌+◌, ◌-◌, ◌*◌, ◌/◌, ◌≤◌, ◌<◌, suc-le-suc}
 use native.Mathlib.Nat.{le_of_suc-le-suc, not-suc-le-zero, zero-lt-suc, div-lt_iff_lt-mul, le-div_iff_mul-le, suc-mul}
 use native.Mathlib.Omega.{arith}

@@ -3,15 +3,14 @@
 use mathlib.Core.Path.{◌≡◌, refl, sym, ap, ◌∙◌, subst}
 use mathlib.Core.List.{List}
 use mathlib.Core.Bool.{true}
-use Prim.Native.Nat.{ℕ, ◌-◌, ◌≤◌, ◌<◌}
+use Prim.Native.Nat.{ℕ, ◌-◌, ◌<◌}
 use lib.ListN.{length}
 use lib.IntN.{ℤ, pos, ◌+ℤ◌, ◌-ℤ◌, ◌*ℤ◌}
 use lib.Signed.{◌≤ℤ◌}
 use Rattle.dimrules.specs.Dims.{dim}
-use Rattle.dimrules.specs.Types.{type_at, same_type}
+use Rattle.dimrules.specs.Types.{type_at}
 use Rattle.dimrules.specs.declared.TensorType.{TensorType}
-use Rattle.rules.proofs.FactLaw.{same-type}
-use Rattle.checks.specs.Check.{Term, is, equal, less, at_most, Test, fact, check_holds, broken_number}
+use Rattle.checks.specs.Check.{Term, is, equal, less, at_most, Test, check_holds, broken_number}
 use Rattle.checks.specs.Formula.{shape, rank, ◌!◌, ◌⊕◌, ◌⊖◌, ◌⊗◌, less_one, ceil, ceil_z, int, entries, ◌and◌, ◌[≤]◌, same_elements, whole, same_types}
 use Rattle.checks.proofs.CheckLaw.{each_all, all-each}
 use Rattle.checks.proofs.MeaningLaw.{and-true-both, both-and-true}
@@ -21,7 +20,7 @@ use Rattle.checks.proofs.TypeLaw.{elements-true, true-elements, shape-long, shap
 use Rattle.op_checks.specs.OpChecks.{slice_checks, pad_checks, dynamic_slice_checks}
 use Rattle.constraint_facts.specs.OpFacts.{◌at◌, dim_of, SliceFacts, PadFacts, DynamicSliceFacts}
 use Rattle.constraint_facts.proofs.CeilLaw.{ceil-true, true-ceil}
-use Rattle.constraint_facts.proofs.WordLaw.{type-test, below-same, two-true, true-two, three-true, true-three, types-true, true-types}
+use Rattle.constraint_facts.proofs.WordLaw.{below-same, two-true, true-two, three-true, true-three, types-true, true-types}
 
 -- ---- a list within a shape
 

@@ -1,7 +1,7 @@
 -- What 000's Constraints say of each op, as facts about whole numbers: one field for each C number.
 -- A constraint on quantized types has no field: it holds, as this bench has no such type (01).
 -- Assumes nothing.
-use Rattle.std.specs.Prelude.{◌≡◌, List, ◌⊎◌, true, false, not, ℕ, ◌<◌, ◌≤◌, ◌-◌, length, get_or, ℤ, pos, ◌+ℤ◌, ◌-ℤ◌, ◌*ℤ◌, ◌≤ℤ◌, ◌<ℤ◌}
+use Rattle.std.specs.Prelude.{◌≡◌, List, ◌⊎◌, true, false, not, ℕ, ◌<◌, ◌-◌, length, get_or, ℤ, pos, ◌+ℤ◌, ◌-ℤ◌, ◌*ℤ◌, ◌≤ℤ◌, ◌<ℤ◌}
 use Rattle.element.specs.Types.{signed_of}
 use Rattle.shape.specs.Index.{size}
 use Rattle.shape.specs.Dims.{dims_of}
