@@ -1,7 +1,6 @@
 use borrow.Author.Tests.{le-ltb, lt-ltb, ne_eqb, eq-eqb}
 use Rattle.optable.proofs.TableLaw.{attributes-count}
 use Rattle.attributes.specs.Attributes.{attribute_fits}
-use borrow.Author.Rules.{rules}
 use Rattle.attributes.proofs.attribute_fits.Goals as goal
 
 pub returns-then-k-ge-NONE : goal.returns-then-k-ge-NONE

@@ -1,5 +1,4 @@
 use Rattle.attributes.specs.Attributes.{attribute_of}
-use borrow.Author.Rules.{rules}
 use Rattle.attributes.proofs.attribute_of.Goals as goal
 
 pub returns : goal.returns

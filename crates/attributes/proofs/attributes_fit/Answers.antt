@@ -1,6 +1,5 @@
 use borrow.Author.Tests.{le-ltb, lt-ltb, eq-eqb, ne_eqb}
 use Rattle.attributes.specs.Attributes.{attributes_fit}
-use borrow.Author.Rules.{rules}
 use mathlib.Core.Path.{refl, ◌∙◌}
 use Rattle.attributes.proofs.AttributesLaw.{everywhere-is}
 use Rattle.attributes.proofs.attributes_fit.Goals as goal

@@ -1,5 +1,4 @@
 use Rattle.attributes.specs.Attributes.{choice_fits}
-use borrow.Author.Rules.{rules}
 use Rattle.attributes.proofs.choice_fits.Goals as goal
 
 pub returns : goal.returns

@@ -1,6 +1,5 @@
 use Rattle.optable.proofs.TableLaw.{choices-count}
 use Rattle.attributes.specs.Attributes.{choice_of}
-use borrow.Author.Rules.{rules}
 use Rattle.attributes.proofs.choice_of.Goals as goal
 
 pub returns-then-stands : goal.returns-then-stands

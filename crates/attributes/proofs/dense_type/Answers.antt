@@ -1,5 +1,4 @@
 use Rattle.attributes.specs.Attributes.{dense_type}
-use borrow.Author.Rules.{rules}
 use Rattle.attributes.proofs.dense_type.Goals as goal
 
 pub returns-then-stands : goal.returns-then-stands

@@ -1,5 +1,4 @@
 use Rattle.attributes.specs.Attributes.{dense_fits}
-use borrow.Author.Rules.{rules}
 use Rattle.places.proofs.TypeInLaw.{type-in-sized}
 use Rattle.attributes.proofs.dense_value_fits.Goals as goal
 

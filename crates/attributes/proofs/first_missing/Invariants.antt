@@ -1,10 +1,5 @@
-use borrow.Author.Rules.{rules}
-use borrow.Author.Tests.{not-true, not-false}
-use Prim.Native.Nat.{ℕ, ◌≤◌, ◌-◌}
-use mathlib.Core.Bool.{Bool}
-use mathlib.Core.Path.{◌≡◌, sym, ◌∙◌}
-use native.Mathlib.Omega.{arith}
-use Rattle.dimrules.proofs.CountLaw.{Reached, reach-none, reach-next, reach_here, reach-end}
+use Prim.Native.Nat.{◌≤◌, ◌-◌}
+use Rattle.dimrules.proofs.CountLaw.{Reached}
 use Rattle.attributes.specs.Attributes.{stands, needed_at}
 use Rattle.attributes.proofs.first_missing.Given as goal
 

@@ -1,10 +1,8 @@
-use borrow.Author.Rules.{rules}
-use borrow.Author.Tests.{not-true, not-false}
-use Prim.Native.Nat.{◌≤◌, ◌-◌}
-use mathlib.Core.Path.{◌≡◌, sym, ◌∙◌}
+use Prim.Native.Nat.{◌-◌}
+use mathlib.Core.Path.{sym, ◌∙◌}
 use native.Mathlib.Omega.{arith}
-use Rattle.dimrules.proofs.CountLaw.{Reached, reach-none, reach-next, reach_here, reach-end}
-use Rattle.attributes.specs.Attributes.{attributes_of, attribute_fits}
+use Rattle.dimrules.proofs.CountLaw.{reach-none, reach-next, reach_here, reach-end}
+use Rattle.attributes.specs.Attributes.{attribute_fits}
 use Rattle.attributes.proofs.AttributesLaw.{attributes-most}
 use Rattle.attributes.proofs.first_unfit.Goals as goal
 

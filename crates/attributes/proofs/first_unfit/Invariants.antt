@@ -1,11 +1,7 @@
-use borrow.Author.Rules.{rules}
-use borrow.Author.Tests.{not-true, not-false}
 use Prim.Native.Nat.{◌≤◌, ◌-◌}
-use mathlib.Core.Path.{◌≡◌, sym, ◌∙◌}
-use native.Mathlib.Omega.{arith}
-use Rattle.dimrules.proofs.CountLaw.{Reached, reach-none, reach-next, reach_here, reach-end}
+use mathlib.Core.Path.{◌≡◌}
+use Rattle.dimrules.proofs.CountLaw.{Reached}
 use Rattle.attributes.specs.Attributes.{attributes_of, attribute_fits}
-use Rattle.attributes.proofs.AttributesLaw.{attributes-most}
 use Rattle.attributes.proofs.first_unfit.Given as goal
 
 abbrev pub invariant-loop-j : goal.invariant-loop-j

@@ -1,6 +1,5 @@
 use borrow.Author.Tests.{ne_eqb, eq-eqb}
 use Rattle.attributes.specs.Attributes.{kind_fits}
-use borrow.Author.Rules.{rules}
 use Rattle.attributes.proofs.kind_fits.Goals as goal
 
 pub returns-then-form_at-kind : goal.returns-then-form_at-kind

@@ -1,6 +1,5 @@
 use borrow.Author.Tests.{eq-eqb, ne_eqb}
 use Rattle.attributes.specs.Attributes.{numbers_by}
-use borrow.Author.Rules.{rules}
 use Rattle.attributes.proofs.numbers_by.Goals as goal
 
 pub returns-then-kind-eq-NUMBERS : goal.returns-then-kind-eq-NUMBERS

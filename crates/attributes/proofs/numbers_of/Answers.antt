@@ -1,5 +1,4 @@
 use Rattle.attributes.specs.Attributes.{attribute_numbers}
-use borrow.Author.Rules.{rules}
 use Rattle.attributes.proofs.numbers_of.Goals as goal
 
 pub returns-then-stands : goal.returns-then-stands

@@ -1,5 +1,4 @@
 use Rattle.attributes.specs.Attributes.{stands}
-use borrow.Author.Rules.{rules}
 use Rattle.attributes.proofs.stands.Goals as goal
 
 pub returns : goal.returns

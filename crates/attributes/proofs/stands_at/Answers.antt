@@ -1,11 +1,8 @@
-use borrow.Author.Rules.{rules}
-use Prim.Native.Nat.{◌≤◌, ◌-◌}
-use mathlib.Core.Path.{◌≡◌, sym, ◌∙◌}
+use Prim.Native.Nat.{◌-◌}
+use mathlib.Core.Path.{◌∙◌}
 use native.Mathlib.Omega.{arith}
-use lib.Dec.{eqb}
 use borrow.Author.Tests.{eq-eqb, ne_eqb}
-use Rattle.attributes.specs.Attributes.{attributes_of}
-use Rattle.attributes.proofs.AttributesLaw.{attributes-most, Sought, seek-none, seek-next, seek-here, seek-end}
+use Rattle.attributes.proofs.AttributesLaw.{attributes-most, seek-none, seek-next, seek-here, seek-end}
 use Rattle.attributes.proofs.stands_at.Goals as goal
 
 pub loop-j-init : goal.loop-j-init

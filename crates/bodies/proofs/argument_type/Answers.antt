@@ -1,5 +1,4 @@
 use Rattle.bodies.specs.Bodies.{argument_type}
-use borrow.Author.Rules.{rules}
 use Rattle.bodies.proofs.argument_type.Goals as goal
 
 pub returns : goal.returns

@@ -1,5 +1,4 @@
 use Rattle.bodies.specs.Bodies.{as_first}
-use borrow.Author.Rules.{rules}
 use Rattle.places.proofs.TypeInLaw.{part-sized}
 use Rattle.bodies.proofs.as_first.Goals as goal
 

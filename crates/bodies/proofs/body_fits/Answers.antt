@@ -1,5 +1,4 @@
 use Rattle.bodies.specs.Bodies.{body_fits}
-use borrow.Author.Rules.{rules}
 use Rattle.bodies.proofs.body_fits.Goals as goal
 
 pub returns : goal.returns

@@ -1,5 +1,4 @@
 use Rattle.bodies.specs.Bodies.{body_row}
-use borrow.Author.Rules.{rules}
 use Rattle.bodies.proofs.body_row.Goals as goal
 
 pub returns : goal.returns

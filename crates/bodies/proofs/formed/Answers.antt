@@ -1,5 +1,4 @@
 use Rattle.bodies.specs.Bodies.{formed}
-use borrow.Author.Rules.{rules}
 use Rattle.bodies.proofs.formed.Goals as goal
 
 pub returns : goal.returns

@@ -1,5 +1,4 @@
 use Rattle.bodies.specs.Bodies.{has_count}
-use borrow.Author.Rules.{rules}
 use Rattle.bodies.proofs.has_count.Goals as goal
 
 pub returns : goal.returns

@@ -1,5 +1,4 @@
 use Rattle.bodies.specs.Bodies.{inner_op}
-use borrow.Author.Rules.{rules}
 use Rattle.bodies.proofs.inner_op.Goals as goal
 
 pub returns : goal.returns

@@ -1,5 +1,4 @@
 use Rattle.bodies.specs.Bodies.{is_reducer}
-use borrow.Author.Rules.{rules}
 use Rattle.bodies.proofs.is_reducer.Goals as goal
 
 pub returns : goal.returns

@@ -1,5 +1,4 @@
 use Rattle.bodies.specs.Bodies.{on_both}
-use borrow.Author.Rules.{rules}
 use Rattle.bodies.proofs.on_both.Goals as goal
 
 pub returns : goal.returns

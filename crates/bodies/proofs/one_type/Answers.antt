@@ -1,5 +1,4 @@
 use Rattle.bodies.specs.Bodies.{one_type}
-use borrow.Author.Rules.{rules}
 use Rattle.bodies.proofs.one_type.Goals as goal
 
 pub returns : goal.returns

@@ -1,5 +1,4 @@
 use Rattle.bodies.specs.Bodies.{op_counted}
-use borrow.Author.Rules.{rules}
 use Rattle.bodies.proofs.op_counted.Goals as goal
 
 pub returns : goal.returns

@@ -1,5 +1,4 @@
 use Rattle.bodies.specs.Bodies.{operand_is}
-use borrow.Author.Rules.{rules}
 use Rattle.bodies.proofs.operand_is.Goals as goal
 
 pub returns : goal.returns

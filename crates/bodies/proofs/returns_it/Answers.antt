@@ -1,5 +1,4 @@
 use Rattle.bodies.specs.Bodies.{returns_it}
-use borrow.Author.Rules.{rules}
 use Rattle.bodies.proofs.returns_it.Goals as goal
 
 pub returns : goal.returns

@@ -1,5 +1,4 @@
 use Rattle.bodies.specs.Bodies.{row_named}
-use borrow.Author.Rules.{rules}
 use Rattle.bodies.proofs.row_named.Goals as goal
 
 pub returns : goal.returns

@@ -1,4 +1,3 @@
-use borrow.Author.Rules.{rules}
 use Rattle.doing.proofs.class_of.Goals as goal
 
 pub returns-in-Quotient : goal.returns-in-Quotient

@@ -1,5 +1,4 @@
 use Rattle.doing.proofs.DoingLaw.{concatenate-lent, concatenate-gives}
-use borrow.Author.Rules.{rules}
 use Rattle.doing.proofs.concatenate_op.Goals as goal
 
 pub concatenate-requires : goal.concatenate-requires

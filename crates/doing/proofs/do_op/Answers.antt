@@ -5,7 +5,6 @@ use Rattle.facts.specs.Facts.{AcceptedAs}
 use Rattle.doing.specs.Doing.{args_in, arguments_at}
 use Rattle.doing.specs.declared.Class.TheVariants.{Read, Divided, Joined, ByTask}
 use Rattle.doing.proofs.DoingLaw.{in-class, given, gives-done, constant-gives}
-use borrow.Author.Rules.{rules}
 use Rattle.doing.proofs.do_op.Goals as goal
 
 pub constant_op-requires : goal.constant_op-requires

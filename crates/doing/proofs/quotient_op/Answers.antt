@@ -1,7 +1,6 @@
 use mathlib.Core.Path.{◌∙◌}
 use native.Mathlib.Omega.{arith}
 use Rattle.doing.proofs.DoingLaw.{quotient-lent, quotient-filled, quotient-zeroed}
-use borrow.Author.Rules.{rules}
 use Rattle.doing.proofs.quotient_op.Goals as goal
 
 pub operand-x-requires : goal.operand-x-requires

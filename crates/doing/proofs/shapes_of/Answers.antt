@@ -1,4 +1,4 @@
-use Prim.Native.Nat.{ℕ, ◌-◌, ◌≤◌}
+use Prim.Native.Nat.{ℕ, ◌-◌}
 use mathlib.Core.Path.{◌≡◌, refl, ap, ◌∙◌}
 use mathlib.Core.List.{List, ◌++◌}
 use native.Mathlib.Omega.{arith}
@@ -7,7 +7,6 @@ use Rattle.lists.specs.Lists.{tab}
 use Rattle.lists.proofs.TabLaw.{fill_step, fill-whole}
 use Rattle.shape.specs.declared.Shape.{Shape}
 use Rattle.dimrules.specs.Types.{type_at}
-use borrow.Author.Rules.{rules}
 use Rattle.doing.proofs.shapes_of.Goals as goal
 
 pub loop-j-init : goal.loop-j-init

@@ -1,13 +1,9 @@
-use Prim.Native.Nat.{ℕ, ◌-◌, ◌≤◌}
-use mathlib.Core.Path.{◌≡◌, refl, ap, ◌∙◌}
-use mathlib.Core.List.{List, ◌++◌}
-use native.Mathlib.Omega.{arith}
-use lib.ListN.{drop, set, replicate}
+use Prim.Native.Nat.{◌-◌, ◌≤◌}
+use mathlib.Core.Path.{◌≡◌}
+use mathlib.Core.List.{◌++◌}
+use lib.ListN.{drop}
 use Rattle.lists.specs.Lists.{tab}
-use Rattle.lists.proofs.TabLaw.{fill_step, fill-whole}
-use Rattle.shape.specs.declared.Shape.{Shape}
 use Rattle.dimrules.specs.Types.{type_at}
-use borrow.Author.Rules.{rules}
 use Rattle.doing.proofs.shapes_of.Given as goal
 
 abbrev pub invariant-loop-j : goal.invariant-loop-j

@@ -1,6 +1,5 @@
 use mathlib.Core.Path.{sym}
 use lib.ListN.{get_or-eq_default}
-use borrow.Author.Rules.{rules}
 use Rattle.doing.proofs.slot_at.Goals as goal
 
 pub returns-else-p-slots : goal.returns-else-p-slots

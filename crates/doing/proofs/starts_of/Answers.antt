@@ -1,6 +1,5 @@
 use Prim.Native.Nat.{◌-◌}
-use Rattle.elementwise.proofs.FillLaw.{Done, done_none, done_next, done_all}
-use Rattle.doing.specs.Doing.{start_in}
+use Rattle.elementwise.proofs.FillLaw.{done_none, done_next, done_all}
 use borrow.Author.Rules.{rules}
 use Rattle.doing.proofs.starts_of.Goals as goal
 

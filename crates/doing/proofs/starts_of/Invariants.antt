@@ -1,7 +1,6 @@
 use Prim.Native.Nat.{◌-◌}
-use Rattle.elementwise.proofs.FillLaw.{Done, done_none, done_next, done_all}
+use Rattle.elementwise.proofs.FillLaw.{Done}
 use Rattle.doing.specs.Doing.{start_in}
-use borrow.Author.Rules.{rules}
 use Rattle.doing.proofs.starts_of.Given as goal
 
 abbrev pub invariant-loop-d : goal.invariant-loop-d

@@ -1,6 +1,5 @@
 use native.Mathlib.Omega.{arith}
 use Rattle.doing.proofs.DoingLaw.{task-ready, task-gives}
-use borrow.Author.Rules.{rules}
 use Rattle.doing.proofs.task_op.Goals as goal
 
 pub operand-x-requires : goal.operand-x-requires

@@ -1,9 +1,8 @@
 use mathlib.Core.Path.{refl, ◌∙◌}
 use Prim.Native.Nat.{◌-◌}
 use lib.ListN.{length}
-use Rattle.elementwise.proofs.FillLaw.{Done, done_none, done_next, done_all}
+use Rattle.elementwise.proofs.FillLaw.{done_none, done_next, done_all}
 use Rattle.doing.proofs.DoingLaw.{zeros}
-use borrow.Author.Rules.{rules}
 use Rattle.doing.proofs.zero_into.Goals as goal
 
 pub loop-i-init : goal.loop-i-init

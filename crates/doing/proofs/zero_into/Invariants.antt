@@ -1,9 +1,6 @@
-use mathlib.Core.Path.{refl, ◌∙◌}
 use Prim.Native.Nat.{◌-◌}
 use lib.ListN.{length}
-use Rattle.elementwise.proofs.FillLaw.{Done, done_none, done_next, done_all}
-use Rattle.doing.proofs.DoingLaw.{zeros}
-use borrow.Author.Rules.{rules}
+use Rattle.elementwise.proofs.FillLaw.{Done}
 use Rattle.doing.proofs.zero_into.Given as goal
 
 abbrev pub invariant-loop-i : goal.invariant-loop-i

@@ -1,4 +1,3 @@
-use borrow.Author.Rules.{rules}
 use Rattle.evaluation.proofs.FillLaw.{front-put}
 use Rattle.evaluate.proofs.copy_front.Goals as goal
 

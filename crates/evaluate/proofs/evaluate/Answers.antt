@@ -1,5 +1,4 @@
 use mathlib.Core.Path.{◌∙◌}
-use borrow.Author.Rules.{rules}
 use Rattle.evaluation.proofs.OrderLaw.{order-free-answer}
 use Rattle.answers.proofs.AnswerLaw.{answer-same, free-of-order}
 use Rattle.evaluate.proofs.evaluate.Goals as goal

@@ -1,7 +1,6 @@
-use mathlib.Core.Path.{◌≡◌, sym, ◌∙◌}
+use mathlib.Core.Path.{sym, ◌∙◌}
 use Prim.Native.Nat.{◌≤◌}
 use native.Mathlib.Omega.{arith}
-use borrow.Author.Rules.{rules}
 use Rattle.offsets.specs.Offsets.{ValuesRead}
 use Rattle.values.proofs.ValuesLaw.{text-inputs}
 use Rattle.evaluation.proofs.RunLaw.{text-read}

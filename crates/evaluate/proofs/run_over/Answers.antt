@@ -1,13 +1,9 @@
-use mathlib.Core.Path.{◌≡◌, ap, ◌∙◌}
+use mathlib.Core.Path.{◌∙◌}
 use Prim.Native.Nat.{◌≤◌}
 use native.Mathlib.Omega.{arith}
-use lib.ListN.{length, take}
-use borrow.Author.Rules.{rules}
+use lib.ListN.{length}
 use Rattle.offsets.specs.Offsets.{needed_of}
 use Rattle.steps.specs.Steps.{Accepts}
-use Rattle.evaluation.specs.State.{copied}
-use Rattle.evaluation.specs.Evaluated.{ran}
-use Rattle.inputs.specs.Inputs.{input_slots}
 use Rattle.evaluation.proofs.RunLaw.{text-read, run_small, slots-fit, copied-started, copied-ran}
 use Rattle.evaluate.proofs.run_over.Goals as goal
 

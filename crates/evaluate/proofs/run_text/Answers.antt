@@ -1,5 +1,4 @@
-use mathlib.Core.Path.{◌≡◌, sym, ap, ◌∙◌}
-use borrow.Author.Rules.{rules}
+use mathlib.Core.Path.{sym, ap, ◌∙◌}
 use Rattle.judge.specs.declared.Refusal.{Refusal}
 use Rattle.evaluation.proofs.FittedLaw.{refused, not-refused, as_values}
 use Rattle.evaluate.proofs.run_text.Goals as goal

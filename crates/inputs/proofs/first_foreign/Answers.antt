@@ -1,8 +1,7 @@
-use Prim.Native.Nat.{◌≤◌, ◌-◌}
+use Prim.Native.Nat.{◌-◌}
 use mathlib.Core.Path.{sym, ◌∙◌}
 use native.Mathlib.Omega.{arith}
-use borrow.Author.Rules.{rules}
-use Rattle.dimrules.proofs.CountLaw.{Reached, reach-none, reach-next, reach_here, reach-end}
+use Rattle.dimrules.proofs.CountLaw.{reach-none, reach-next, reach_here, reach-end}
 use Rattle.inputs.specs.Inputs.{input_slots, slot_fits, first_foreign}
 use Rattle.inputs.proofs.first_foreign.Goals as goal
 

@@ -1,10 +1,6 @@
 use Prim.Native.Nat.{◌≤◌, ◌-◌}
-use mathlib.Core.Path.{sym, ◌∙◌}
-use native.Mathlib.Omega.{arith}
-use borrow.Author.Rules.{rules}
-use borrow.Author.Tests.{not-true, not-false}
-use Rattle.dimrules.proofs.CountLaw.{Reached, reach-none, reach-next, reach_here, reach-end}
-use Rattle.inputs.specs.Inputs.{input_slots, slot_fits, first_foreign}
+use Rattle.dimrules.proofs.CountLaw.{Reached}
+use Rattle.inputs.specs.Inputs.{input_slots, slot_fits}
 use Rattle.inputs.proofs.first_foreign.Given as goal
 
 abbrev pub invariant-loop-s : goal.invariant-loop-s

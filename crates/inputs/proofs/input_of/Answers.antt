@@ -1,7 +1,6 @@
-use Prim.Native.Nat.{◌-◌, ◌≤◌}
+use Prim.Native.Nat.{◌-◌}
 use native.Mathlib.Omega.{arith}
-use borrow.Author.Rules.{rules}
-use Rattle.inputs.proofs.InputsLaw.{Past, past-none, past-here, past_next, past_end}
+use Rattle.inputs.proofs.InputsLaw.{past-none, past-here, past_next, past_end}
 use Rattle.inputs.proofs.input_of.Goals as goal
 
 pub loop-i-init : goal.loop-i-init

@@ -1,7 +1,5 @@
 use Prim.Native.Nat.{◌-◌, ◌≤◌}
-use native.Mathlib.Omega.{arith}
-use borrow.Author.Rules.{rules}
-use Rattle.inputs.proofs.InputsLaw.{Past, past-none, past-here, past_next, past_end}
+use Rattle.inputs.proofs.InputsLaw.{Past}
 use Rattle.inputs.proofs.input_of.Given as goal
 
 abbrev pub invariant-loop-i : goal.invariant-loop-i

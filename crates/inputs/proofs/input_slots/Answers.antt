@@ -1,5 +1,4 @@
 use native.Mathlib.Omega.{arith}
-use borrow.Author.Rules.{rules}
 use Rattle.inputs.specs.Inputs.{input_slots}
 use Rattle.offsets.proofs.OffsetsLaw.{offset_read}
 use Rattle.inputs.proofs.input_slots.Goals as goal

@@ -1,12 +1,10 @@
-use mathlib.Core.Path.{◌≡◌, sym, ap, ◌∙◌}
+use mathlib.Core.Path.{◌≡◌, ap, ◌∙◌}
 use Prim.Native.Nat.{ℕ}
 use native.Mathlib.Omega.{arith}
-use lib.ListN.{length, length-map, get_or}
-use borrow.Author.Rules.{rules}
+use lib.ListN.{length, get_or}
 use Rattle.element.specs.Types.{is_value}
 use Rattle.values.specs.declared.Value.{Value}
 use Rattle.values.specs.Values.{no_value}
-use Rattle.values.specs.contracts.Value.{the_type}
 use Rattle.values.proofs.ValuesLaw.{any-default}
 use Rattle.inputs.specs.Inputs.{input_of, slot_fits}
 use Rattle.inputs.proofs.InputsLaw.{input-le}

@@ -1,5 +1,4 @@
 use mathlib.Core.Path.{refl}
-use borrow.Author.Rules.{rules}
 use Rattle.optable.proofs.TableLaw.{direction-place}
 use Rattle.kinds.proofs.compare_of.Goals as goal
 

@@ -1,5 +1,4 @@
 use mathlib.Core.Path.{refl}
-use borrow.Author.Rules.{rules}
 use Rattle.nodes.specs.Nodes.{op_kind}
 use Rattle.kinds.proofs.kind_of.Goals as goal
 

@@ -1,4 +1,3 @@
-use borrow.Author.Rules.{rules}
 use Rattle.optable.proofs.TableLaw.{value-place}
 use Rattle.kinds.proofs.literal_of.Goals as goal
 

@@ -1,5 +1,4 @@
 use mathlib.Core.Path.{refl}
-use borrow.Author.Rules.{rules}
 use Rattle.nodes.specs.Nodes.{reducer_at}
 use Rattle.kinds.proofs.reduce_of.Goals as goal
 

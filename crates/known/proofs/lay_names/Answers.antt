@@ -1,10 +1,8 @@
-use Prim.Native.Nat.{◌-◌, ◌≤◌}
-use mathlib.Core.Path.{◌≡◌, sym, ◌∙◌}
+use Prim.Native.Nat.{◌-◌}
+use mathlib.Core.Path.{◌≡◌}
 use native.Mathlib.Omega.{arith}
-use lib.ListN.{length, length-map}
-use Rattle.known.proofs.KnownLaw.{Laying, laying-first, laying-next, laying-end}
-use Rattle.values.specs.contracts.Value.{the_type}
-use borrow.Author.Rules.{rules}
+use lib.ListN.{length}
+use Rattle.known.proofs.KnownLaw.{laying-first, laying-next, laying-end}
 use Rattle.known.proofs.lay_names.Goals as goal
 
 pub loop-k-init : goal.loop-k-init

@@ -1,10 +1,6 @@
 use Prim.Native.Nat.{◌-◌, ◌≤◌}
-use mathlib.Core.Path.{◌≡◌, sym, ◌∙◌}
-use native.Mathlib.Omega.{arith}
-use lib.ListN.{length, length-map}
-use Rattle.known.proofs.KnownLaw.{Laying, laying-first, laying-next, laying-end}
-use Rattle.values.specs.contracts.Value.{the_type}
-use borrow.Author.Rules.{rules}
+use lib.ListN.{length}
+use Rattle.known.proofs.KnownLaw.{Laying}
 use Rattle.known.proofs.lay_names.Given as goal
 
 abbrev pub invariant-loop-k : goal.invariant-loop-k

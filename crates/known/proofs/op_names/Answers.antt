@@ -1,5 +1,4 @@
 use Rattle.known.proofs.KnownLaw.{names-said}
-use borrow.Author.Rules.{rules}
 use Rattle.known.proofs.op_names.Goals as goal
 
 pub returns : goal.returns

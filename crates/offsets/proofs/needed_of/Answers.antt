@@ -1,7 +1,6 @@
 use mathlib.Core.Path.{◌≡◌, refl, ap, ◌∙◌}
-use Prim.Native.Nat.{ℕ, ◌-◌, ◌≤◌}
+use Prim.Native.Nat.{ℕ, ◌-◌}
 use native.Mathlib.Omega.{arith}
-use borrow.Author.Rules.{rules}
 use Rattle.offsets.specs.Offsets.{offset_at, needed_of}
 use Rattle.offsets.proofs.OffsetsLaw.{offset-turn, sum-small}
 use Rattle.offsets.proofs.needed_of.Goals as goal

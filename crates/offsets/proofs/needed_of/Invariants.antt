@@ -1,9 +1,6 @@
-use mathlib.Core.Path.{◌≡◌, refl, ap, ◌∙◌}
-use Prim.Native.Nat.{ℕ, ◌-◌, ◌≤◌}
-use native.Mathlib.Omega.{arith}
-use borrow.Author.Rules.{rules}
-use Rattle.offsets.specs.Offsets.{offset_at, needed_of}
-use Rattle.offsets.proofs.OffsetsLaw.{offset-turn, sum-small}
+use mathlib.Core.Path.{◌≡◌}
+use Prim.Native.Nat.{◌-◌, ◌≤◌}
+use Rattle.offsets.specs.Offsets.{offset_at}
 use Rattle.offsets.proofs.needed_of.Given as goal
 
 abbrev pub invariant-loop-i : goal.invariant-loop-i

@@ -1,13 +1,9 @@
-use mathlib.Core.Path.{◌≡◌, refl, ap, ◌∙◌}
-use mathlib.Core.List.{List, ◌++◌}
-use Prim.Native.Nat.{ℕ, ◌-◌, ◌≤◌}
-use native.Mathlib.Omega.{arith}
-use lib.ListN.{drop, set, replicate}
-use borrow.Author.Rules.{rules}
+use mathlib.Core.Path.{◌≡◌}
+use mathlib.Core.List.{◌++◌}
+use Prim.Native.Nat.{◌-◌, ◌≤◌}
+use lib.ListN.{drop}
 use Rattle.lists.specs.Lists.{tab}
-use Rattle.lists.proofs.TabLaw.{fill_step, fill-whole}
-use Rattle.offsets.specs.Offsets.{offset_at, offsets_of}
-use Rattle.offsets.proofs.OffsetsLaw.{offset-turn, sum-small}
+use Rattle.offsets.specs.Offsets.{offset_at}
 use Rattle.offsets.proofs.offsets_of.Given as goal
 
 abbrev pub invariant-loop-i : goal.invariant-loop-i

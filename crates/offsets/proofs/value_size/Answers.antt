@@ -1,14 +1,12 @@
-use mathlib.Core.Path.{◌≡◌, sym, ap, ◌∙◌}
+use mathlib.Core.Path.{◌≡◌, ap, ◌∙◌}
 use native.Mathlib.Omega.{arith}
-use lib.ListN.{length, length-map, get_or}
+use lib.ListN.{length, get_or}
 use Rattle.shape.specs.Index.{size}
 use Rattle.shape.specs.Dims.{dims_of}
 use Rattle.values.specs.declared.Value.{Value}
 use Rattle.values.specs.Values.{no_value}
-use Rattle.values.specs.contracts.Value.{the_type}
 use Rattle.values.proofs.ValuesLaw.{any-default}
 use Rattle.offsets.specs.Offsets.{size_at}
-use borrow.Author.Rules.{rules}
 use Rattle.offsets.proofs.value_size.Goals as goal
 
 pub size_of-requires : goal.size_of-requires

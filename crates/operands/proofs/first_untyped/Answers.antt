@@ -1,9 +1,7 @@
-use Prim.Native.Nat.{◌≤◌, ◌-◌}
-use mathlib.Core.Path.{◌≡◌, sym, ◌∙◌}
+use Prim.Native.Nat.{◌-◌}
+use mathlib.Core.Path.{sym, ◌∙◌}
 use native.Mathlib.Omega.{arith}
-use borrow.Author.Rules.{rules}
-use borrow.Author.Tests.{not-true, not-false}
-use Rattle.dimrules.proofs.CountLaw.{Reached, reach-none, reach-next, reach_here, reach-end}
+use Rattle.dimrules.proofs.CountLaw.{reach-none, reach-next, reach_here, reach-end}
 use Rattle.operands.specs.Operands.{arity_of, operand_typed}
 use Rattle.operands.proofs.OperandsLaw.{arity-few}
 use Rattle.operands.proofs.first_untyped.Goals as goal

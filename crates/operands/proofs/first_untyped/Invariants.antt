@@ -1,11 +1,7 @@
 use Prim.Native.Nat.{◌≤◌, ◌-◌}
-use mathlib.Core.Path.{◌≡◌, sym, ◌∙◌}
-use native.Mathlib.Omega.{arith}
-use borrow.Author.Rules.{rules}
-use borrow.Author.Tests.{not-true, not-false}
-use Rattle.dimrules.proofs.CountLaw.{Reached, reach-none, reach-next, reach_here, reach-end}
+use mathlib.Core.Path.{◌≡◌}
+use Rattle.dimrules.proofs.CountLaw.{Reached}
 use Rattle.operands.specs.Operands.{arity_of, operand_typed}
-use Rattle.operands.proofs.OperandsLaw.{arity-few}
 use Rattle.operands.proofs.first_untyped.Given as goal
 
 abbrev pub invariant-loop-j : goal.invariant-loop-j

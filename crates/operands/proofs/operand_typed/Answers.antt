@@ -1,14 +1,12 @@
-use mathlib.Core.Path.{◌≡◌, sym, ◌∙◌}
+use mathlib.Core.Path.{◌≡◌}
 use native.Mathlib.Omega.{arith}
-use lib.ListN.{length, length-map, get_or}
+use lib.ListN.{length, get_or}
 use borrow.Author.Tests.{lt-ltb}
 use Rattle.values.specs.Values.{no_value}
-use Rattle.values.specs.contracts.Value.{the_type}
 use Rattle.values.proofs.ValuesLaw.{any-default}
 use Rattle.places.proofs.TypeInLaw.{part-sized}
 use borrow.Author.Tests.{le-ltb}
 use Rattle.operands.specs.Operands.{operand_typed}
-use borrow.Author.Rules.{rules}
 use Rattle.operands.proofs.operand_typed.Goals as goal
 
 pub same_type-requires : goal.same_type-requires

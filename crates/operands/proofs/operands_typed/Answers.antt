@@ -1,7 +1,6 @@
 use mathlib.Core.Path.{◌∙◌}
 use Rattle.operands.specs.Operands.{arity_of, operand_typed, operands_typed}
 use Rattle.operands.proofs.OperandsLaw.{both_first}
-use borrow.Author.Rules.{rules}
 use Rattle.operands.proofs.operands_typed.Goals as goal
 
 pub returns : goal.returns

@@ -1,11 +1,10 @@
 use mathlib.Core.Path.{refl}
 use Rattle.values.specs.Values.{no_value}
 use Rattle.operands.proofs.OperandsLaw.{name-any}
-use Prim.Native.Nat.{◌≤◌, ◌-◌}
-use mathlib.Core.Path.{◌≡◌, sym, ◌∙◌}
+use Prim.Native.Nat.{◌-◌}
+use mathlib.Core.Path.{sym, ◌∙◌}
 use native.Mathlib.Omega.{arith}
-use borrow.Author.Rules.{rules}
-use Rattle.operands.proofs.OperandsLaw.{Sought, seek-none, seek-next, seek-here, seek-end}
+use Rattle.operands.proofs.OperandsLaw.{seek-none, seek-next, seek-here, seek-end}
 use Rattle.operands.proofs.value_named.Goals as goal
 
 pub loop-i-init : goal.loop-i-init

@@ -1,8 +1,5 @@
-use native.Mathlib.Omega.{arith}
-use mathlib.Core.Path.{refl}
-use borrow.Author.Tests.{eq-eqb, ne_eqb, le-leb, le-ltb, lt-leb, lt-ltb, not-false, not-true}
+use borrow.Author.Tests.{eq-eqb, ne_eqb}
 use Rattle.opwise.specs.Opwise.{by_op}
-use borrow.Author.Rules.{rules}
 use Rattle.opwise.proofs.by_op.Goals as goal
 
 pub returns-then-j-eq0 : goal.returns-then-j-eq0

@@ -1,12 +1,7 @@
-use Prim.Native.Nat.{ℕ, suc, ◌+◌, ◌-◌, ◌≤◌}
-use mathlib.Core.Path.{◌≡◌, refl, sym, ap, ◌∙◌}
-use native.Mathlib.Omega.{arith}
-use native.Mathlib.Numerals.{add-one}
+use Prim.Native.Nat.{◌+◌, ◌-◌}
+use mathlib.Core.Path.{◌≡◌}
 use lib.ListN.{length}
-use borrow.Author.Rules.{rules}
-use Rattle.judge.specs.declared.Refusal.{Refusal}
-use Rattle.opwise.specs.Opwise.{op_refusal, ops_from}
-use Rattle.opwise.proofs.OpwiseLaw.{refused, goes_on, none_left}
+use Rattle.opwise.specs.Opwise.{ops_from}
 use Rattle.opwise.proofs.first_refused.Given as goal
 
 abbrev pub invariant-loop-left : goal.invariant-loop-left

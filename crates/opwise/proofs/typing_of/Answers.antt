@@ -1,6 +1,5 @@
 use borrow.Author.Tests.{eq-eqb, ne_eqb}
 use Rattle.opwise.specs.Opwise.{typing_of}
-use borrow.Author.Rules.{rules}
 use Rattle.opwise.proofs.typing_of.Goals as goal
 
 pub returns-then-k-p : goal.returns-then-k-p

@@ -1,5 +1,4 @@
 use Rattle.outputs.specs.Outputs.{return_judged}
-use borrow.Author.Rules.{rules}
 use Rattle.outputs.proofs.return_judged.Goals as goal
 
 pub returns-then-typed_return : goal.returns-then-typed_return

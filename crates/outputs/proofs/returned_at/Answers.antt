@@ -1,6 +1,5 @@
 use Rattle.places.proofs.TypeInLaw.{part-sized}
 use Rattle.outputs.specs.Outputs.{returned_at}
-use borrow.Author.Rules.{rules}
 use Rattle.outputs.proofs.returned_at.Goals as goal
 
 pub same_type-requires : goal.same_type-requires

@@ -3,7 +3,6 @@ use mathlib.Core.Path.{◌∙◌}
 use Rattle.operands.specs.Operands.{arity_of}
 use Rattle.outputs.specs.Outputs.{returned_at, returns_header}
 use Rattle.operands.proofs.OperandsLaw.{both_first}
-use borrow.Author.Rules.{rules}
 use Rattle.outputs.proofs.returns_header.Goals as goal
 
 pub returns : goal.returns

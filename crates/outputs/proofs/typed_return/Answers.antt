@@ -1,5 +1,4 @@
 use Rattle.outputs.specs.Outputs.{typed_return}
-use borrow.Author.Rules.{rules}
 use Rattle.outputs.proofs.typed_return.Goals as goal
 
 pub returns : goal.returns

@@ -1,5 +1,4 @@
 use Rattle.places.specs.Places.{type_in}
-use borrow.Author.Rules.{rules}
 use Rattle.places.proofs.type_in.Goals as goal
 
 pub returns-then-both : goal.returns-then-both

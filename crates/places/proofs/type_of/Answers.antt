@@ -1,5 +1,4 @@
 use Rattle.places.specs.Places.{type_of_part}
-use borrow.Author.Rules.{rules}
 use Rattle.places.proofs.type_of.Goals as goal
 
 pub returns : goal.returns

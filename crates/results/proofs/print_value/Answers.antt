@@ -1,20 +1,18 @@
-use mathlib.Core.Path.{◌≡◌, sym, ap, ◌∙◌}
+use mathlib.Core.Path.{◌≡◌, ap, ◌∙◌}
 use mathlib.Core.List.{List}
 use Prim.Native.Nat.{ℕ}
 use native.Mathlib.Omega.{arith}
-use lib.ListN.{length, length-map, get_or}
+use lib.ListN.{length, get_or}
 use Rattle.shape.specs.Index.{size}
 use Rattle.shape.specs.Dims.{dims_of}
 use Rattle.laid.specs.Laid.{written}
 use Rattle.values.specs.declared.Value.{Value}
 use Rattle.values.specs.Values.{no_value}
-use Rattle.values.specs.contracts.Value.{the_type}
 use Rattle.values.proofs.ValuesLaw.{any-default}
 use Rattle.offsets.specs.Offsets.{size_at}
 use Rattle.offsets.proofs.OffsetsLaw.{sum-small}
 use Rattle.results.specs.Results.{dense_of, line_of}
 use Rattle.results.proofs.ResultsLaw.{line-end, part_length, dense-read, dense-small}
-use borrow.Author.Rules.{rules}
 use Rattle.results.proofs.print_value.Goals as goal
 
 pub size_of-requires : goal.size_of-requires

@@ -1,5 +1,4 @@
 use Rattle.results.specs.Results.{line_at}
-use borrow.Author.Rules.{rules}
 use Rattle.results.proofs.result_number.Goals as goal
 
 pub returns : goal.returns

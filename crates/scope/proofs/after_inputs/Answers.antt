@@ -1,8 +1,6 @@
 use mathlib.Core.Path.{refl, ◌∙◌}
 use Prim.Native.Nat.{◌-◌}
-use lib.ListN.{length}
-use Rattle.scope.proofs.ScopeLaw.{Inputs, inputs-done, inputs-fault, inputs-more}
-use borrow.Author.Rules.{rules}
+use Rattle.scope.proofs.ScopeLaw.{inputs-done, inputs-fault, inputs-more}
 use native.Mathlib.Omega.{arith}
 use Rattle.scope.proofs.after_inputs.Goals as goal
 

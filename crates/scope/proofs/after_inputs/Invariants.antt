@@ -1,9 +1,6 @@
-use mathlib.Core.Path.{refl, ◌∙◌}
 use Prim.Native.Nat.{◌-◌}
 use lib.ListN.{length}
-use Rattle.scope.proofs.ScopeLaw.{Inputs, inputs-done, inputs-fault, inputs-more}
-use borrow.Author.Rules.{rules}
-use native.Mathlib.Omega.{arith}
+use Rattle.scope.proofs.ScopeLaw.{Inputs}
 use Rattle.scope.proofs.after_inputs.Given as goal
 
 abbrev pub invariant-loop-i : goal.invariant-loop-i

@@ -2,7 +2,6 @@ use mathlib.Core.Path.{refl, sym, ap, ◌∙◌}
 use lib.ListN.{drop}
 use Rattle.scope.specs.Scope.{and_then, settle, names_of}
 use Rattle.scope.proofs.ScopeLaw.{rescope, goes_on, stops, past_end}
-use borrow.Author.Rules.{rules}
 use native.Mathlib.Omega.{arith}
 use Rattle.scope.proofs.after_op.Goals as goal
 

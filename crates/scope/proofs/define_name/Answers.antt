@@ -2,7 +2,6 @@ use mathlib.Core.Path.{refl}
 use Rattle.scope.specs.Scope.{define}
 use Rattle.scope.specs.Scoped.{answered}
 use Rattle.scope.proofs.ScopeLaw.{rescope}
-use borrow.Author.Rules.{rules}
 use native.Mathlib.Omega.{arith}
 use Rattle.scope.proofs.define_name.Goals as goal
 

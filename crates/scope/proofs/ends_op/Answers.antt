@@ -1,6 +1,5 @@
 use borrow.Author.Tests.{eq-eqb, ne_eqb}
 use Rattle.scope.specs.Scope.{ends}
-use borrow.Author.Rules.{rules}
 use Rattle.scope.proofs.ends_op.Goals as goal
 
 pub returns-then-role-eq-BODY_CLOSE : goal.returns-then-role-eq-BODY_CLOSE

@@ -1,11 +1,7 @@
-use mathlib.Core.Path.{◌≡◌, refl, sym, ◌∙◌}
+use mathlib.Core.Path.{◌≡◌}
 use Prim.Native.Nat.{◌-◌, ◌≤◌}
 use lib.ListN.{length, drop}
-use borrow.Author.Tests.{eq-eqb, ne_eqb}
 use Rattle.scope.specs.Scope.{forget}
-use Rattle.scope.proofs.ScopeLaw.{forget-next, forget-end}
-use borrow.Author.Rules.{rules}
-use native.Mathlib.Omega.{arith}
 use Rattle.scope.proofs.forget_body.Given as goal
 
 abbrev pub invariant-loop-i : goal.invariant-loop-i

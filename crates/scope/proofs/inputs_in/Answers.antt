@@ -1,10 +1,8 @@
-use mathlib.Core.Path.{◌≡◌, ap, ◌∙◌}
-use mathlib.Core.List.{[]}
+use mathlib.Core.Path.{ap, ◌∙◌}
 use native.Mathlib.Omega.{arith}
-use lib.ListN.{length, drop, drop_of_length-le}
+use lib.ListN.{length, drop_of_length-le}
 use Rattle.scope.specs.Scope.{inputs_from, fault_of}
 use Rattle.scope.proofs.ScopeLaw.{said}
-use borrow.Author.Rules.{rules}
 use Rattle.scope.proofs.inputs_in.Goals as goal
 
 pub returns : goal.returns

@@ -1,6 +1,5 @@
 use borrow.Author.Tests.{lt-ltb, le-ltb}
 use Rattle.scope.specs.Scope.{defines}
-use borrow.Author.Rules.{rules}
 use Rattle.scope.proofs.is_definition.Goals as goal
 
 pub returns-then-entry-lt-BODY : goal.returns-then-entry-lt-BODY

@@ -1,9 +1,6 @@
-use mathlib.Core.Path.{◌≡◌, refl, sym, ◌∙◌}
+use mathlib.Core.Path.{refl, sym, ◌∙◌}
 use Prim.Native.Nat.{◌-◌}
-use lib.ListN.{length, drop}
-use Rattle.scope.specs.Scope.{visible}
 use Rattle.scope.proofs.ScopeLaw.{visible-next, visible-end}
-use borrow.Author.Rules.{rules}
 use Rattle.scope.proofs.is_visible.Goals as goal
 
 pub loop-i-init : goal.loop-i-init

@@ -1,9 +1,7 @@
-use mathlib.Core.Path.{◌≡◌, refl, sym, ◌∙◌}
+use mathlib.Core.Path.{◌≡◌}
 use Prim.Native.Nat.{◌-◌}
 use lib.ListN.{length, drop}
 use Rattle.scope.specs.Scope.{visible}
-use Rattle.scope.proofs.ScopeLaw.{visible-next, visible-end}
-use borrow.Author.Rules.{rules}
 use Rattle.scope.proofs.is_visible.Given as goal
 
 abbrev pub invariant-loop-i : goal.invariant-loop-i

@@ -1,7 +1,6 @@
 use mathlib.Core.Path.{refl}
 use Rattle.scope.specs.Scope.{look}
 use Rattle.scope.specs.Scoped.{answered}
-use borrow.Author.Rules.{rules}
 use native.Mathlib.Omega.{arith}
 use Rattle.scope.proofs.look_up.Goals as goal
 

@@ -1,7 +1,6 @@
 use native.Mathlib.Omega.{arith}
 use Rattle.text.proofs.TokenLaw.{token-after, token-ordered}
 use Rattle.scope.specs.Scope.{name_at}
-use borrow.Author.Rules.{rules}
 use Rattle.scope.proofs.name_at.Goals as goal
 
 pub overflow_sub-result : goal.overflow_sub-result

@@ -1,6 +1,5 @@
 use mathlib.Core.Path.{◌∙◌}
 use Rattle.scope.proofs.ScopeLaw.{said}
-use borrow.Author.Rules.{rules}
 use Rattle.scope.proofs.names_in.Goals as goal
 
 pub returns : goal.returns

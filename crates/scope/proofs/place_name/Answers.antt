@@ -3,7 +3,6 @@ use borrow.Author.Tests.{eq-eqb, ne_eqb}
 use Rattle.scope.specs.Scope.{placed}
 use Rattle.scope.specs.Scoped.{answered}
 use Rattle.scope.proofs.ScopeLaw.{rescope}
-use borrow.Author.Rules.{rules}
 use native.Mathlib.Omega.{arith}
 use Rattle.scope.proofs.place_name.Goals as goal
 

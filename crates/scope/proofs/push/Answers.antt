@@ -1,5 +1,4 @@
 use Rattle.scope.proofs.ScopeLaw.{pushed}
-use borrow.Author.Rules.{rules}
 use Rattle.scope.proofs.push.Goals as goal
 
 pub returns : goal.returns

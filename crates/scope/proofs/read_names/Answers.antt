@@ -4,11 +4,10 @@ use Prim.Native.Nat.{◌+◌}
 use lib.ListN.{length, drop}
 use borrow.Author.Tests.{not-true, not-false}
 use Rattle.text.proofs.TokenLaw.{token-ordered, token-within}
-use Rattle.grammar.specs.Symbols.{Op}
 use Rattle.syntax.specs.Readings.{readings_from, readings_of}
 use Rattle.syntax.proofs.ReadingLaw.{all_read, none_left, turn-wrong, turn-right, room-first, room_next}
 use Rattle.scope.specs.Scope.{names_from}
-use Rattle.scope.proofs.ScopeLaw.{Naming, names-none, names-stop, naming-end, naming-fault, naming-next}
+use Rattle.scope.proofs.ScopeLaw.{names-none, names-stop, naming-end, naming-fault, naming-next}
 use borrow.Author.Rules.{rules}
 use native.Mathlib.Omega.{arith}
 use Rattle.scope.proofs.read_names.Goals as goal

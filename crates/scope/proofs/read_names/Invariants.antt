@@ -1,16 +1,8 @@
-use mathlib.Core.Path.{refl, ap, ◌∙◌}
-use mathlib.Core.List.{[]}
-use Prim.Native.Nat.{◌+◌}
-use lib.ListN.{length, drop}
-use borrow.Author.Tests.{not-true, not-false}
-use Rattle.text.proofs.TokenLaw.{token-ordered, token-within}
+use lib.ListN.{drop}
 use Rattle.grammar.specs.Symbols.{Op}
-use Rattle.syntax.specs.Readings.{readings_from, readings_of}
-use Rattle.syntax.proofs.ReadingLaw.{all_read, none_left, turn-wrong, turn-right, room-first, room_next}
+use Rattle.syntax.specs.Readings.{readings_of}
 use Rattle.scope.specs.Scope.{names_from}
-use Rattle.scope.proofs.ScopeLaw.{Naming, names-none, names-stop, naming-end, naming-fault, naming-next}
-use borrow.Author.Rules.{rules}
-use native.Mathlib.Omega.{arith}
+use Rattle.scope.proofs.ScopeLaw.{Naming}
 use Rattle.scope.proofs.read_names.Given as goal
 
 abbrev pub invariant-loop-left : goal.invariant-loop-left

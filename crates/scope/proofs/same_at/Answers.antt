@@ -1,5 +1,4 @@
 use Rattle.scope.specs.Scope.{same_at}
-use borrow.Author.Rules.{rules}
 use Rattle.scope.proofs.same_at.Goals as goal
 
 pub returns : goal.returns

@@ -1,7 +1,7 @@
 use mathlib.Core.Path.{sym, ◌∙◌}
 use borrow.Author.Tests.{ltb-true}
 use Rattle.scope.specs.Scoped.{answered}
-use Rattle.scope.proofs.ScopeLaw.{Settling, settling-first, settling-next, settling-fault, settling-end, still-waits}
+use Rattle.scope.proofs.ScopeLaw.{settling-first, settling-next, settling-fault, settling-end, still-waits}
 use borrow.Author.Rules.{rules}
 use native.Mathlib.Omega.{arith}
 use Rattle.scope.proofs.settle_names.Goals as goal

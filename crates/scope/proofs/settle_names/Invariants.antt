@@ -1,9 +1,4 @@
-use mathlib.Core.Path.{sym, ◌∙◌}
-use borrow.Author.Tests.{ltb-true}
-use Rattle.scope.specs.Scoped.{answered}
-use Rattle.scope.proofs.ScopeLaw.{Settling, settling-first, settling-next, settling-fault, settling-end, still-waits}
-use borrow.Author.Rules.{rules}
-use native.Mathlib.Omega.{arith}
+use Rattle.scope.proofs.ScopeLaw.{Settling}
 use Rattle.scope.proofs.settle_names.Given as goal
 
 abbrev pub invariant-loop-k : goal.invariant-loop-k

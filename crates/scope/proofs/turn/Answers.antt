@@ -1,7 +1,6 @@
 use mathlib.Core.Path.{◌∙◌}
 use Rattle.scope.specs.Scope.{placed, turned}
 use Rattle.scope.proofs.ScopeLaw.{rescope, goes_on, stops}
-use borrow.Author.Rules.{rules}
 use native.Mathlib.Omega.{arith}
 use Rattle.scope.proofs.turn.Goals as goal
 

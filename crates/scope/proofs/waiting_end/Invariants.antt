@@ -1,11 +1,7 @@
-use mathlib.Core.Path.{◌≡◌, refl}
-use Prim.Native.Nat.{suc, ◌+◌, ◌-◌}
+use mathlib.Core.Path.{◌≡◌}
+use Prim.Native.Nat.{◌+◌, ◌-◌}
 use lib.ListN.{length, drop}
-use borrow.Author.Tests.{lt-ltb, le-ltb}
 use Rattle.scope.specs.Scoped.{waiting_count}
-use Rattle.scope.proofs.ScopeLaw.{count_next, count-end}
-use borrow.Author.Rules.{rules}
-use native.Mathlib.Omega.{arith}
 use Rattle.scope.proofs.waiting_end.Given as goal
 
 abbrev pub invariant-loop-i : goal.invariant-loop-i

@@ -1,9 +1,8 @@
 use mathlib.Core.Path.{◌≡◌, refl, ap, ◌∙◌}
 use mathlib.Core.List.{List, ◌++◌}
-use Prim.Native.Nat.{ℕ, ◌-◌, ◌≤◌}
+use Prim.Native.Nat.{ℕ, ◌-◌}
 use native.Mathlib.Omega.{arith}
 use lib.ListN.{drop, set, replicate}
-use borrow.Author.Rules.{rules}
 use Rattle.lists.specs.Lists.{tab}
 use Rattle.lists.proofs.TabLaw.{fill_step, fill-whole}
 use Rattle.spans.specs.Spans.{place_at, places_of}

@@ -1,12 +1,9 @@
-use mathlib.Core.Path.{◌≡◌, refl, ap, ◌∙◌}
-use mathlib.Core.List.{List, ◌++◌}
-use Prim.Native.Nat.{ℕ, ◌-◌, ◌≤◌}
-use native.Mathlib.Omega.{arith}
-use lib.ListN.{drop, set, replicate}
-use borrow.Author.Rules.{rules}
+use mathlib.Core.Path.{◌≡◌}
+use mathlib.Core.List.{◌++◌}
+use Prim.Native.Nat.{◌-◌, ◌≤◌}
+use lib.ListN.{drop}
 use Rattle.lists.specs.Lists.{tab}
-use Rattle.lists.proofs.TabLaw.{fill_step, fill-whole}
-use Rattle.spans.specs.Spans.{place_at, places_of}
+use Rattle.spans.specs.Spans.{place_at}
 use Rattle.spans.proofs.places_of.Given as goal
 
 abbrev pub invariant-loop-j : goal.invariant-loop-j

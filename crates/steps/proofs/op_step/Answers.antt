@@ -1,6 +1,5 @@
 use Prim.Native.Nat.{◌≤◌, ◌<◌}
 use native.Mathlib.Omega.{arith}
-use borrow.Author.Rules.{rules}
 use Rattle.steps.proofs.StepsLaw.{step-asks, step-means, few-values}
 use Rattle.steps.proofs.op_step.Goals as goal
 

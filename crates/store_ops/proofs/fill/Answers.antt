@@ -1,7 +1,6 @@
 use Prim.Native.Nat.{ℕ, ◌+◌, ◌≤◌, ◌<◌}
 use native.Mathlib.Omega.{arith}
 use lib.ListN.{length, get_or}
-use borrow.Author.Rules.{rules}
 use Rattle.offsets.proofs.OffsetsLaw.{offset_read}
 use Rattle.steps.proofs.StepsLaw.{few-values, step-read, step-counted}
 use Rattle.evaluation.specs.State.{Stretch}

@@ -1,6 +1,5 @@
 use Prim.Native.Nat.{◌+◌, ◌-◌, ◌≤◌}
 use mathlib.Core.Path.{◌≡◌, ◌∙◌, sym}
-use borrow.Author.Rules.{rules}
 use Rattle.offsets.specs.Offsets.{size_at}
 use Rattle.steps.proofs.StepsLaw.{step-holds}
 use Rattle.evaluation.proofs.FillLaw.{stretch-order, lent_length, filled, unfilled}

@@ -1,14 +1,11 @@
-use Prim.Native.Nat.{ℕ, ◌+◌, ◌-◌, ◌≤◌, ◌<◌}
+use Prim.Native.Nat.{◌+◌, ◌-◌, ◌≤◌, ◌<◌}
 use mathlib.Core.Path.{◌≡◌, refl, ◌∙◌}
 use native.Mathlib.Omega.{arith}
-use lib.ListN.{length, get_or, take}
-use borrow.Author.Rules.{rules}
+use lib.ListN.{get_or}
 use Rattle.values.specs.Values.{ops_of}
 use Rattle.offsets.specs.Offsets.{offset_at}
 use Rattle.offsets.proofs.OffsetsLaw.{offset_read}
-use Rattle.inputs.specs.Inputs.{input_slots}
 use Rattle.steps.proofs.StepsLaw.{few-values}
-use Rattle.evaluation.specs.State.{State}
 use Rattle.evaluation.proofs.RunLaw.{run-start, run-held, run-next, run-stopped, run-within, run_end, run_small}
 use Rattle.store_ops.proofs.run_ops.Goals as goal
 

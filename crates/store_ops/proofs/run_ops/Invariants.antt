@@ -1,15 +1,8 @@
-use Prim.Native.Nat.{ℕ, ◌+◌, ◌-◌, ◌≤◌, ◌<◌}
-use mathlib.Core.Path.{◌≡◌, refl, ◌∙◌}
-use native.Mathlib.Omega.{arith}
-use lib.ListN.{length, get_or, take}
-use borrow.Author.Rules.{rules}
-use Rattle.values.specs.Values.{ops_of}
-use Rattle.offsets.specs.Offsets.{offset_at}
-use Rattle.offsets.proofs.OffsetsLaw.{offset_read}
+use Prim.Native.Nat.{◌-◌, ◌≤◌}
+use mathlib.Core.Path.{◌≡◌}
+use lib.ListN.{length, take}
 use Rattle.inputs.specs.Inputs.{input_slots}
-use Rattle.steps.proofs.StepsLaw.{few-values}
 use Rattle.evaluation.specs.State.{State}
-use Rattle.evaluation.proofs.RunLaw.{run-start, run-held, run-next, run-stopped, run-within, run_end, run_small}
 use Rattle.store_ops.proofs.run_ops.Given as goal
 
 abbrev pub invariant-loop-k : goal.invariant-loop-k

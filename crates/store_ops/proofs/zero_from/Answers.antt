@@ -1,4 +1,3 @@
-use borrow.Author.Rules.{rules}
 use Rattle.evaluation.proofs.FillLaw.{zeros-put}
 use Rattle.store_ops.proofs.zero_from.Goals as goal
 

@@ -1,6 +1,5 @@
 use Rattle.typing.proofs.TypingLaw.{and-true}
 use Rattle.typing.specs.Typing.{bodies_fit}
-use borrow.Author.Rules.{rules}
 use Rattle.typing.proofs.bodies_fit.Goals as goal
 
 pub returns-then-row : goal.returns-then-row

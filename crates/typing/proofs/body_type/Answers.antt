@@ -1,5 +1,4 @@
 use Rattle.typing.specs.Typing.{body_type}
-use borrow.Author.Rules.{rules}
 use Rattle.typing.proofs.body_type.Goals as goal
 
 pub returns-then-row : goal.returns-then-row

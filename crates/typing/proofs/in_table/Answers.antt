@@ -1,6 +1,5 @@
 use Rattle.optable.proofs.TableLaw.{ops-count}
 use Rattle.typing.specs.Typing.{in_table}
-use borrow.Author.Rules.{rules}
 use Rattle.typing.proofs.in_table.Goals as goal
 
 pub returns : goal.returns

@@ -1,6 +1,5 @@
 use Rattle.typing.proofs.TypingLaw.{read-sizes}
 use Rattle.typing.specs.Typing.{op_judged}
-use borrow.Author.Rules.{rules}
 use Rattle.typing.proofs.op_judged.Goals as goal
 
 pub broken_by-requires : goal.broken_by-requires

@@ -1,6 +1,5 @@
 use Rattle.optable.proofs.TableLaw.{value-place, type-place}
 use Rattle.typing.specs.Typing.{operation_of}
-use borrow.Author.Rules.{rules}
 use Rattle.typing.proofs.operation_of.Goals as goal
 
 pub returns : goal.returns

@@ -1,5 +1,4 @@
 use Rattle.typing.specs.Typing.{results_are}
-use borrow.Author.Rules.{rules}
 use Rattle.typing.proofs.results_are.Goals as goal
 
 pub returns : goal.returns

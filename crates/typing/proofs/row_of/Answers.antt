@@ -1,5 +1,4 @@
 use Rattle.typing.specs.Typing.{row_named_in}
-use borrow.Author.Rules.{rules}
 use Rattle.typing.proofs.row_of.Goals as goal
 
 pub returns : goal.returns

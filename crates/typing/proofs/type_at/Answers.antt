@@ -1,6 +1,5 @@
 use borrow.Author.Tests.{lt-ltb, le-ltb}
 use Rattle.typing.specs.Typing.{types_of}
-use borrow.Author.Rules.{rules}
 use Rattle.typing.proofs.type_at.Goals as goal
 
 pub returns-then-j-arity_of : goal.returns-then-j-arity_of

@@ -1,6 +1,5 @@
 use Rattle.typing.proofs.TypingLaw.{few}
 use Rattle.typing.specs.Typing.{typed_op}
-use borrow.Author.Rules.{rules}
 use Rattle.typing.proofs.typed_op.Goals as goal
 
 pub taken_by_tables-requires : goal.taken_by_tables-requires

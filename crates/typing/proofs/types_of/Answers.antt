@@ -1,4 +1,4 @@
-use Prim.Native.Nat.{ℕ, ◌-◌, ◌≤◌}
+use Prim.Native.Nat.{ℕ, ◌-◌}
 use mathlib.Core.Path.{◌≡◌, refl, ap, ◌∙◌}
 use mathlib.Core.List.{List, ◌++◌}
 use native.Mathlib.Omega.{arith}
@@ -7,7 +7,6 @@ use Rattle.lists.specs.Lists.{tab}
 use Rattle.lists.proofs.TabLaw.{fill_step, fill-whole}
 use Rattle.dimrules.specs.declared.TensorType.{TensorType}
 use Rattle.typing.specs.Typing.{types_of}
-use borrow.Author.Rules.{rules}
 use Rattle.typing.proofs.types_of.Goals as goal
 
 pub loop-j-init : goal.loop-j-init

@@ -1,13 +1,9 @@
-use Prim.Native.Nat.{ℕ, ◌-◌, ◌≤◌}
-use mathlib.Core.Path.{◌≡◌, refl, ap, ◌∙◌}
-use mathlib.Core.List.{List, ◌++◌}
-use native.Mathlib.Omega.{arith}
-use lib.ListN.{drop, set, replicate}
+use Prim.Native.Nat.{◌-◌, ◌≤◌}
+use mathlib.Core.Path.{◌≡◌}
+use mathlib.Core.List.{◌++◌}
+use lib.ListN.{drop}
 use Rattle.lists.specs.Lists.{tab}
-use Rattle.lists.proofs.TabLaw.{fill_step, fill-whole}
-use Rattle.dimrules.specs.declared.TensorType.{TensorType}
 use Rattle.typing.specs.Typing.{types_of}
-use borrow.Author.Rules.{rules}
 use Rattle.typing.proofs.types_of.Given as goal
 
 abbrev pub invariant-loop-j : goal.invariant-loop-j

@@ -1,5 +1,4 @@
 use Rattle.values.specs.Values.{input_value}
-use borrow.Author.Rules.{rules}
 use Rattle.values.proofs.input_value.Goals as goal
 
 pub returns : goal.returns

@@ -1,6 +1,5 @@
 use native.Mathlib.Omega.{arith}
 use Rattle.values.specs.Values.{inputs_of}
-use borrow.Author.Rules.{rules}
 use Rattle.values.proofs.inputs_of.Goals as goal
 
 pub returns-then-n-lt-OPERANDS : goal.returns-then-n-lt-OPERANDS

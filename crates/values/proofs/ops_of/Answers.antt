@@ -1,6 +1,5 @@
 use native.Mathlib.Omega.{arith}
 use Rattle.values.specs.Values.{ops_of}
-use borrow.Author.Rules.{rules}
 use Rattle.values.proofs.ops_of.Goals as goal
 
 pub returns-then-n-eq0 : goal.returns-then-n-eq0

@@ -1,5 +1,4 @@
 use Rattle.values.specs.Values.{result_value}
-use borrow.Author.Rules.{rules}
 use Rattle.values.proofs.result_value.Goals as goal
 
 pub returns : goal.returns

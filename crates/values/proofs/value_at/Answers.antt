@@ -2,7 +2,6 @@ use borrow.Author.Tests.{lt-ltb, le-ltb}
 use Rattle.values.specs.Values.{value_at}
 use native.Mathlib.Omega.{arith}
 use Rattle.values.proofs.ValuesLaw.{inputs-small, ops-small}
-use borrow.Author.Rules.{rules}
 use Rattle.values.proofs.value_at.Goals as goal
 
 pub input_value-requires : goal.input_value-requires

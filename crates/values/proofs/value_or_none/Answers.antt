@@ -4,7 +4,6 @@ use native.Mathlib.Omega.{arith}
 use borrow.Author.Tests.{lt-ltb, le-ltb}
 use Rattle.lists.proofs.SearchLaw.{pick_first}
 use Rattle.values.proofs.ValuesLaw.{inputs-small, ops-small}
-use borrow.Author.Rules.{rules}
 use Rattle.values.proofs.value_or_none.Goals as goal
 
 pub overflow_add-inputs_of : goal.overflow_add-inputs_of

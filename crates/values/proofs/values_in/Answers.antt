@@ -1,16 +1,13 @@
-use Prim.Native.Nat.{ℕ, ◌+◌, ◌-◌, ◌≤◌}
+use Prim.Native.Nat.{ℕ, ◌+◌, ◌-◌}
 use mathlib.Core.Path.{◌≡◌, refl, ap, ◌∙◌}
 use mathlib.Core.List.{List, ◌++◌}
 use native.Mathlib.Omega.{arith}
-use lib.ListN.{length, drop, set, replicate}
-use lib.Dec.{ltb}
-use Rattle.program.specs.declared.Program.{Program}
-use Rattle.lists.specs.Lists.{pick, tab}
+use lib.ListN.{drop, set, replicate}
+use Rattle.lists.specs.Lists.{tab}
 use Rattle.lists.proofs.TabLaw.{fill_step, fill-whole}
 use Rattle.values.specs.declared.Value.{Value}
-use Rattle.values.specs.Values.{no_value, inputs_of, ops_of, value_at, values_in}
+use Rattle.values.specs.Values.{ops_of, values_in}
 use Rattle.values.proofs.ValuesLaw.{inputs-small, ops-small}
-use borrow.Author.Rules.{rules}
 use Rattle.values.proofs.values_in.Invariants.{each}
 use Rattle.values.proofs.values_in.Goals as goal
 

@@ -1,5 +1,4 @@
 use Rattle.values.specs.Values.{values_of}
-use borrow.Author.Rules.{rules}
 use Rattle.values.proofs.values_of.Goals as goal
 
 pub returns : goal.returns

@@ -1,6 +1,5 @@
 use borrow.Author.Tests.{eq-eqb, ne_eqb}
 use Rattle.verify.specs.Verify.{verdict}
-use borrow.Author.Rules.{rules}
 use Rattle.verify.proofs.check.Goals as goal
 
 pub checked-requires : goal.checked-requires

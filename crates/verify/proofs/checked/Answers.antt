@@ -3,7 +3,6 @@ use Rattle.reading_laws.proofs.OpsLaw.{few_bytes, read-program}
 use Prim.Native.Nat.{ℕ}
 use lib.ListN.{length-replicate}
 use Rattle.values.proofs.ValuesLaw.{inputs-few}
-use borrow.Author.Rules.{rules}
 use Rattle.verify.proofs.checked.Goals as goal
 
 pub program_refusal-requires : goal.program_refusal-requires

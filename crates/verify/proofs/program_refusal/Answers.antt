@@ -1,6 +1,5 @@
 use borrow.Author.Tests.{eq-eqb, ne_eqb}
 use Rattle.verify.specs.Verify.{program_refusal}
-use borrow.Author.Rules.{rules}
 use Rattle.verify.proofs.program_refusal.Goals as goal
 
 pub returns-then-f-eq0 : goal.returns-then-f-eq0
