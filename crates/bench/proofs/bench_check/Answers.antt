@@ -1,6 +1,4 @@
 use mathlib.Core.Path.{ap, ◌∙◌}
-use borrow.Author.Rules.{rules}
-use Rattle.judge.specs.declared.Refusal.{Refusal}
 use Rattle.verdict_laws.proofs.VerdictLaw.{verdict-same}
 use Rattle.bench.specs.Numbers.{three_numbers}
 use Rattle.bench.proofs.bench_check.Goals as goal

@@ -1,4 +1,3 @@
-use borrow.Author.Rules.{rules}
 use Rattle.program_output.proofs.OutputLaw.{zero-accepted, results-laid, refused-laid}
 use Rattle.program_output.proofs.print_evaluated.Goals as goal
 

@@ -1,5 +1,5 @@
 -- The store's length is by law: it is too long to count.
-use Rattle.std.proofs.Common.{ℕ, sym, ◌∙◌, replicate}
+use Rattle.std.proofs.Common.{ℕ, sym, ◌∙◌}
 use Rattle.std.proofs.lemmas.List.{length-replicate}
 use Rattle.program_output.proofs.print_output.Goals as goal
 
