@@ -87,6 +87,7 @@ fn stack_texts() -> Vec<(String, Vec<u8>)> {
         ("reductions".into(), reductions(254, &[4; 6], Given::Constants)),
         ("tokens".into(), tokens(4000)),
     ];
+    texts.push(("many names in one body".into(), hostile::many_names(TEXT_BYTES)));
     texts.extend(hostile::texts());
     texts
 }
