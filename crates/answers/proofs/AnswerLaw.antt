@@ -25,7 +25,7 @@ use Rattle.run.specs.Tree.{Tree}
 use Rattle.run.specs.Ways.{OrderOf, TreesAllowed, free_run, evaluation}
 use Rattle.ops.specs.Ops.{Node, hlo}
 use Rattle.ops.specs.Typed.{StartsAtIdentity}
-use Rattle.judge.specs.declared.Refusal.{Refusal}
+use Rattle.judge.specs.Refusals.{Refusal}
 use Rattle.judge.specs.Judge.{text_refusal, refuse}
 use Rattle.program.specs.Program.{program_of}
 use Rattle.values.specs.declared.Value.{Value}

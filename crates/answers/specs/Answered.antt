@@ -13,7 +13,7 @@ use Rattle.run.specs.Ways.{evaluation}
 use Rattle.ops.specs.Ops.{hlo}
 use Rattle.values.specs.declared.Value.{Value}
 use Rattle.judge.specs.Judge.{refuse}
-use Rattle.judge.specs.declared.Refusal.{Refusal}
+use Rattle.judge.specs.Refusals.{Refusal}
 use Rattle.evaluation.specs.Evaluated.{Evaluated, answer, refusal_of, store_after}
 use Rattle.source.specs.Source.{function_of}
 use Rattle.verifier.specs.DefinedValues.{inputs_defined}

@@ -69,10 +69,6 @@ lone-number c l e h =
 by-patterns : {A : Type 0} (f : List ℕ → A) (n : ℕ) (l : List ℕ) → AreNatural n l → f (take n l) ≡ f (naturals (numbers_in n l))
 by-patterns f n l a = ap f (sym (naturals-numbers (take n l) a))
 
-pub get_or-none : (l : List ℕ) → length l ≡ 0 → 0 ≡ get_or l 0 0
-get_or-none [] e = refl
-get_or-none (a ∷ l) e = absurd (omega arith)
-
 -- iota_dimension is below the rank
 pub iota-small : (k : Task) → Sized k.to → IotaHolds (at k.first 0) (dims_of k.to) → at k.first 0 < 2 ^ 63
 iota-small k s h = omega (arith, h.along, s.rank, dims-le k.to.rank k.to.dims)

@@ -41,18 +41,12 @@ fn move_op(k: Task, m: Move, x: &[u64], out: &mut [u64])
     requires { MoveReady k m x.now out.old }
     ensures { out.new ≡ moved (node_of (Moved m) k) m x.now }
 {
-    let from = k.from;
-    let to = k.to;
-    let count = k.count;
-    let first = k.first;
-    let second = k.second;
-    let limit = k.limit;
     match m {
-        Move::Reshape => maps::reshape(x, from, to, out),
-        Move::BroadcastInDim => maps::broadcast_in_dim(x, from, first, to, out),
-        Move::Transpose => maps::transpose(x, from, first, to, out),
-        Move::Slice => maps::slice(x, from, first, limit, second, to, out),
-        Move::Reverse => maps::reverse(x, to, first, count, out),
+        Move::Reshape => maps::reshape(x, k.from, k.to, out),
+        Move::BroadcastInDim => maps::broadcast_in_dim(x, k.from, k.first, k.to, out),
+        Move::Transpose => maps::transpose(x, k.from, k.first, k.to, out),
+        Move::Slice => maps::slice(x, k.from, k.first, k.limit, k.second, k.to, out),
+        Move::Reverse => maps::reverse(x, k.to, k.first, k.count, out),
     }
 }
 
@@ -60,7 +54,7 @@ fn move_op(k: Task, m: Move, x: &[u64], out: &mut [u64])
 fn first_of(y: &[u64]) -> u64
     ensures { result ≡ get_or y.now 0 0 }
 {
-    if y.len() == 0 { 0 } else { y[0] }
+    y.first().copied().unwrap_or(0)
 }
 
 // x, y and z are the operands; starts are dynamic_slice's.
@@ -68,34 +62,23 @@ pub fn fill(k: Task, starts: [u64; Limits::RANK], x: &[u64], y: &[u64], z: &[u64
     requires { TaskReady k k.kind x.now y.now z.now out.old }
     ensures { task_outcome k k.kind starts x.now y.now z.now ≡ gives out.new }
 {
-    let kind = k.kind;
-    let t = k.element;
-    let source = k.source;
-    let index = k.index;
-    let from = k.from;
-    let last = k.last;
-    let to = k.to;
-    let count = k.count;
-    let first = k.first;
-    let second = k.second;
-    let d = first[0];
     let v = first_of(y);
-    let one = is_single(from);
-    let other = is_single(last);
-    match kind {
-        Kind::Constant => {}
-        Kind::Iota => maps::iota(t, d, to, out),
-        Kind::Elementwise(op) => elementwise::unary_into(op, t, x, out),
-        Kind::Pairwise(op) => elementwise::binary_into(op, t, x, y, out),
-        Kind::Quotient(op) => {}
-        Kind::Compare(direction) => elementwise::compare_into(direction, source, x, y, out),
-        Kind::Convert => elementwise::convert_into(source, t, x, out),
+    let one = is_single(k.from);
+    let other = is_single(k.last);
+    match k.kind {
+        Kind::Constant | Kind::Quotient(_) | Kind::Concatenate => {}
+        Kind::Iota => maps::iota(k.element, k.first[0], k.to, out),
+        Kind::Elementwise(op) => elementwise::unary_into(op, k.element, x, out),
+        Kind::Pairwise(op) => elementwise::binary_into(op, k.element, x, y, out),
+        Kind::Compare(direction) => elementwise::compare_into(direction, k.source, x, y, out),
+        Kind::Convert => elementwise::convert_into(k.source, k.element, x, out),
         Kind::Select => elementwise::select_into(one, x, y, z, out),
-        Kind::Clamp => elementwise::clamp_into(t, one, other, x, y, z, out),
+        Kind::Clamp => elementwise::clamp_into(k.element, one, other, x, y, z, out),
         Kind::Moved(m) => move_op(k, m, x, out),
-        Kind::Pad => maps::pad(x, from, first, second, v, to, out),
-        Kind::Concatenate => {}
-        Kind::DynamicSlice => maps::dynamic_slice(x, from, index, starts, to, out),
-        Kind::Reduce(body) => reduction::reduce(body, t, x, from, first, count, v, to, out),
+        Kind::Pad => maps::pad(x, k.from, k.first, k.second, v, k.to, out),
+        Kind::DynamicSlice => maps::dynamic_slice(x, k.from, k.index, starts, k.to, out),
+        Kind::Reduce(body) => {
+            reduction::reduce(body, k.element, x, k.from, k.first, k.count, v, k.to, out)
+        }
     }
 }

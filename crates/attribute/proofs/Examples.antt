@@ -16,15 +16,14 @@ use Rattle.text.specs.Names.{word_is}
 use Rattle.types.specs.Numbers.{digits_from, magnitude_of, decimal_number, is_attribute_number, pattern_in}
 use Rattle.optable.specs.Table.{choice_kinds, choice_form, choices, choice_kind_names, choice_names}
 use Rattle.optable.specs.Find.{same, name_place, find_choice_kind, find_choice}
-use Rattle.attribute.specs.declared.Numbers.{Numbers}
-use Rattle.attribute.specs.declared.Chosen.{Chosen}
+use Rattle.dimrules.specs.declared.Numbers.{Numbers}
 use Rattle.attribute.specs.declared.Constant.{Constant}
-use Rattle.attribute.specs.Attribute.{token_after, word_form, choice_at, form_at, pattern_at, number_at, none_read, with_number, goes_on, numbers_from, numbers_at, ends_literal, close_from, dense_tokens}
+use Rattle.attribute.specs.Attribute.{ChoiceRows, token_after, word_form, choice_at, form_at, pattern_at, number_at, none_read, with_number, goes_on, numbers_from, numbers_at, ends_literal, close_from, dense_tokens}
 
 abbrev listed : Numbers → List ℕ
 listed ns = take ns.count ns.list
 
-abbrev chosen : Chosen → List ℕ
+abbrev chosen : ChoiceRows → List ℕ
 chosen c = c.kind ∷ c.choice ∷ []
 
 abbrev starts : Constant → List ℕ

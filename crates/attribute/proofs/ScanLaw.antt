@@ -1,18 +1,20 @@
--- Laws of the loops over tokens: one turn, and the end.
+-- Laws of the loops over tokens: one turn, and the end; the kind of a value.
 -- Assumes nothing.
-use mathlib.Core.Path.{◌≡◌, ◌∙◌}
+use mathlib.Core.Path.{◌≡◌, refl, ◌∙◌}
 use mathlib.Core.List.{List}
 use mathlib.Core.Bool.{true, false}
 use Prim.Native.Nat.{ℕ, zero, suc, ◌-◌, ◌<◌, ◌≤◌}
+use lib.ListN.{length}
 use native.Mathlib.Omega.{arith}
 use native.Mathlib.Nat.{not-suc-le-zero}
 use native.Mathlib.Numerals.{unary_clauses}
 use Rattle.lists.specs.Lists.{pick}
 use Rattle.text.specs.declared.Token.{Token}
+use Rattle.optable.specs.Table.{Number, no_kind, choice_kinds, choice_form}
 use Rattle.cursor.specs.declared.Cursor.{Cursor}
 use Rattle.cursor.specs.Cursor.{token_of, cursor_after, past_token}
-use Rattle.attribute.specs.declared.Numbers.{Numbers}
-use Rattle.attribute.specs.Attribute.{token_after, pattern_at, with_number, goes_on, numbers_from, ends_literal, close_from}
+use Rattle.dimrules.specs.declared.Numbers.{Numbers}
+use Rattle.attribute.specs.Attribute.{token_after, word_form, choice_at, form_at, pattern_at, with_number, goes_on, numbers_from, ends_literal, close_from}
 
 pub after-step : (left : ℕ) (text : List ℕ) (c : Cursor) → 0 < left → token_after left text c.at ≡ token_after (left - 1) text (past_token text c).at
 unfolding token_after past_token cursor_after token_of
@@ -71,3 +73,22 @@ close_more left text c t h p g =
 pub close-none : (left : ℕ) (text : List ℕ) (at : ℕ) → left ≤ 0 → close_from left text at ≡ at
 unfolding close_from
 close-none left text at h = let e : left ≡ 0 = omega arith in rw e
+
+-- ---- the kind of a value, by its first token
+
+pub form-past : choice_form (length choice_kinds) ≡ no_kind
+unfolding choice_form choice_kinds
+form-past = refl
+
+module _ (text : List ℕ) (name : ℕ) (t : Token) (e : t ≡ token_after 2 text name) where
+  pub form-number : t.kind ≡ 2 → Number ≡ form_at text name
+  unfolding form_at
+  form-number k = rw (← e, k) refl
+
+  pub form-choice : t.kind ≡ 5 → choice_form (choice_at text name).kind ≡ form_at text name
+  unfolding form_at
+  form-choice k = rw (← e, k) refl
+
+  pub form-word : t.kind ≡ 1 → word_form text t ≡ form_at text name
+  unfolding form_at
+  form-word k = rw (← e, k) refl

@@ -11,8 +11,7 @@ use Rattle.text.specs.declared.Token.{Token}
 use Rattle.types.specs.Numbers.{decimal_number, pattern_in}
 use Rattle.optable.specs.Table.{NumbersKind as NumberList, Number, DenseKind, choice_form, no_kind}
 use Rattle.optable.specs.Find.{find_choice_kind, find_choice}
-use Rattle.attribute.specs.declared.Numbers.{Numbers}
-use Rattle.attribute.specs.declared.Chosen.{Chosen}
+use Rattle.dimrules.specs.declared.Numbers.{Numbers}
 use Rattle.attribute.specs.declared.Constant.{Constant}
 
 -- the token that comes n tokens after the one at or after a byte
@@ -30,8 +29,13 @@ word_form text t =
     pick (word_is (ascii "array") text t.start t.end) NumberList
     (pick (word_is (ascii "dense") text t.start t.end) DenseKind no_kind)
 
+-- the rows of a choice's two words in the table of ops
+pub record ChoiceRows : Type 0 where
+  pub kind : ℕ
+  pub choice : ℕ
+
 -- Choice ::= '#stablehlo' '<' ChoiceKind Choice '>': the rows of its two words in the table of ops
-unfoldable pub choice_at : List ℕ → ℕ → Chosen
+unfoldable pub choice_at : List ℕ → ℕ → ChoiceRows
 choice_at text name =
     let kind = token_after 4 text name in
     let choice = token_after 5 text name in

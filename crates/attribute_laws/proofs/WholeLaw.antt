@@ -21,7 +21,7 @@ use Rattle.grammar.specs.Symbols.{COMMA, COLON, among_symbols}
 use Rattle.dimrules.specs.Whole as whole
 use Rattle.optable.specs.Table.{NumbersKind as NumberList, Number}
 use Rattle.attribute.specs.Attribute.{token_after, value_token, form_at, number_at, numbers_at, choice_at}
-use Rattle.attribute.specs.declared.Numbers.{Numbers as ReadNumbers}
+use Rattle.dimrules.specs.declared.Numbers.{Numbers as ReadNumbers}
 use Rattle.attributes.specs.Attributes.{numbers_by}
 use Rattle.source.specs.Source.{AttributeText}
 use Rattle.verifier.specs.AttributeRules.{numbers_written}

@@ -7,7 +7,8 @@ use Prim.Native.Nat.{ℕ, zero, suc, ◌+◌, ◌≤◌, ◌<◌}
 use native.Mathlib.Omega.{arith}
 use lib.Dec.{ltb, eqb}
 use lib.ListN.{length, set, replicate, length-set}
-use borrow.Author.Tests.{ltb-true}
+use borrow.Author.Tests.{ltb-true, eq-eqb, ne_eqb, lt-ltb, le-ltb}
+use Rattle.std.specs.Prelude.{Option, None, Some, IfSome, is_some, unwrap_or}
 use Rattle.lists.proofs.TestLaw.{both_true}
 use Rattle.lists.specs.Lists.{pick, tab}
 use Rattle.lists.proofs.TabLaw.{length-tab, get_or-tab}
@@ -17,9 +18,9 @@ use Rattle.text.specs.Lex.{token_at}
 use Rattle.optable.specs.Table.{NumbersKind as NumberList, Number, attribute_kind}
 use Rattle.optable.specs.declared.Row.{Row}
 use Rattle.attribute.specs.Attribute.{token_after, pattern_at, none_read, with_number, goes_on, numbers_from, numbers_at, dense_tokens}
-use Rattle.attribute.specs.declared.Numbers.{Numbers as Listed}
-use Rattle.dimrules.specs.Count.{first_failing, everywhere}
-use Rattle.dimrules.proofs.CountLaw.{holds_at}
+use Rattle.dimrules.specs.declared.Numbers.{Numbers as Listed}
+use Rattle.dimrules.specs.Count.{everywhere}
+use Rattle.dimrules.proofs.CountLaw.{Reached, reach_here, reach-end, holds_at}
 use Rattle.dimrules.specs.Dims.{no_numbers as none}
 use Rattle.dimrules.specs.declared.Numbers.{Numbers}
 use Rattle.dimrules.specs.declared.TensorType.{TensorType}
@@ -32,6 +33,11 @@ use Rattle.attributes.specs.Attributes.{attributes_of, attribute_of, stands_at, 
 pub attributes-most : (op : Parts) → attributes_of op ≤ 8
 unfolding attributes_of
 attributes-most op = omega arith
+
+-- what is found below n, and n where there is none
+pub found-below : (r : Option ℕ) (n m : ℕ) → unwrap_or r n ≡ m → IfSome r (λ k. k < n) → is_some r ≡ ltb m n
+found-below None n m e h = sym (le-ltb m n (omega (arith, e)))
+found-below (Some k) n m e h = sym (lt-ltb m n (rw (← e) h))
 
 -- ---- the search for attribute k: none of the first j is it
 
@@ -145,9 +151,14 @@ dense-type-six text op k = (dense-within text op k).1
 -- ---- attributes that fit their row
 
 -- a test at every place below n, by the first that fails
-pub everywhere-is : (n : ℕ) (t : ℕ → Bool) (u m : ℕ) → u ≡ first_failing n t → m ≡ n → everywhere n t ≡ eqb u m
+-- what the loops over places answer
+pub fails-at : (n : ℕ) (t : ℕ → Bool) (d : ℕ) → Reached n t d → d < n → t d ≡ false → false ≡ everywhere n t
 unfolding everywhere
-everywhere-is n t u m p q = rw (p, q)
+fails-at n t d r h e = sym (rw (← reach_here n t d r h e) (ne_eqb d n (omega arith)))
+
+pub passes-all : (n : ℕ) (t : ℕ → Bool) (d : ℕ) → Reached n t d → n ≤ d → d ≤ n → true ≡ everywhere n t
+unfolding everywhere
+passes-all n t d r h g = sym (rw (← reach-end n t d r h g) (eq-eqb n n refl))
 
 module _ (text : List ℕ) (op : Parts) (row : Row) (fit : attributes_fit text op row ≡ true) where
   abbrev each : Bool

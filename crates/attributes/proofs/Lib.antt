@@ -1,2 +1,3 @@
 pub mod AttributesLaw
 pub mod Examples
+pub mod KindLaw

@@ -1,6 +1,6 @@
 -- "An answer has three numbers: refusal, A, B." (01, "The twelve refusals"), as C and Rust take them.
 -- Assumes nothing.
-use Rattle.judge.specs.declared.Refusal.{Refusal}
+use Rattle.judge.specs.Refusals.{Refusal}
 use Rattle.bench.specs.declared.Answer.{Answer}
 
 abbrev pub three_numbers : Refusal → Answer

@@ -2,6 +2,7 @@
 #![tactic(auto)]
 
 ghost use Rattle.std.specs.Prelude.{◌≡◌};
+ghost use Rattle.judge.specs.Refusals.{numbers_of};
 ghost use Rattle.judge.specs.Judge.{text_refusal};
 ghost use Rattle.verifier.specs.Verdict.{verdict_of};
 ghost use Rattle.answers.specs.Answered.{answer_of};
@@ -9,7 +10,7 @@ ghost use Rattle.answers.specs.FreeRuns.{FreeOfOrder};
 ghost use Rattle.bench.specs.Numbers.{three_numbers};
 
 use evaluate::evaluate;
-use judge::{Refusal, read_refusal};
+use judge::{Refused, read_refusal};
 use verify::check;
 
 // An answer has three numbers; the refusal is 0 where there is none, and numbers that 01 leaves unnamed are 0.
@@ -21,13 +22,23 @@ pub struct Answer {
     pub b: u64,
 }
 
-fn answer_of(r: Refusal) -> Answer
-    ensures { result ≡ three_numbers r }
+fn answer_of(r: Result<(), Refused>) -> Answer
+    ensures { result ≡ three_numbers (numbers_of r) }
 {
-    Answer {
-        refusal: r.number as u64,
-        a: r.a as u64,
-        b: r.b as u64,
+    match r {
+        Ok(()) => Answer {
+            refusal: 0,
+            a: 0,
+            b: 0,
+        },
+        Err(e) => {
+            let (refusal, a, b) = e.numbers();
+            Answer {
+                refusal: refusal as u64,
+                a: a as u64,
+                b: b as u64,
+            }
+        }
     }
 }
 

@@ -7,7 +7,6 @@ use Prim.Native.Nat.{ℕ}
 use lib.ListN.{length}
 use Rattle.lists.proofs.TestLaw.{both_true}
 use Rattle.shape.specs.Dims.{Sized}
-use Rattle.program.specs.declared.Parts.{Parts}
 use Rattle.program.specs.Parts.{body_at}
 use Rattle.dimrules.specs.Types.{same_type}
 use Rattle.places.specs.Places.{op_name, operand_type, result_type, input_type, place_of, type_of_part}

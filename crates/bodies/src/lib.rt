@@ -4,8 +4,8 @@
 ghost use Rattle.std.specs.Prelude.{◌≡◌, ◌<◌};
 ghost use Rattle.bodies.specs.Bodies.{inner_op, has_count, body_counted, op_counted, row_named, is_reducer, operand_is, on_both, returns_it, as_first, one_type, formed, body_fits, argument_type, body_row};
 
-use dimrules::{TensorType, both, either, same_type};
-use optable::{find_op, may_reduce, op_row};
+use dimrules::{TensorType, same_type};
+use optable::{Ops, find_op, op_row};
 use places::{Part, count_of, place_of, type_of};
 use program::{Parts, body_at, op_at};
 use scope::same_at;
@@ -27,49 +27,49 @@ fn has_count(p: Parts, k: usize, n: usize) -> bool
 }
 
 // Two arguments, one op and the return, three operands, no attribute and no body within.
+#[tactic(auto, unfolding(crate::specs::Bodies::body_counted))]
 fn body_counted(body: Parts) -> bool
     ensures { result ≡ body_counted body }
 {
-    let mut b = both(
-        has_count(body, Part::INPUT_NAME, 2),
-        has_count(body, Part::INPUT_TYPE, 2),
-    );
-    b = both(b, has_count(body, Part::OP_NAME, 2));
-    b = both(b, has_count(body, Part::RESULT_NAME, 1));
-    b = both(b, has_count(body, Part::OPERAND_NAME, 3));
-    b = both(b, has_count(body, Part::OPERAND_TYPE, 3));
-    b = both(b, has_count(body, Part::RESULT_TYPE, 1));
-    b = both(b, has_count(body, Part::ATTRIBUTE_NAME, 0));
-    both(b, has_count(body, Part::BODY_OPEN, 0))
+    has_count(body, Part::INPUT_NAME, 2)
+        && has_count(body, Part::INPUT_TYPE, 2)
+        && has_count(body, Part::OP_NAME, 2)
+        && has_count(body, Part::RESULT_NAME, 1)
+        && has_count(body, Part::OPERAND_NAME, 3)
+        && has_count(body, Part::OPERAND_TYPE, 3)
+        && has_count(body, Part::RESULT_TYPE, 1)
+        && has_count(body, Part::ATTRIBUTE_NAME, 0)
+        && has_count(body, Part::BODY_OPEN, 0)
 }
 
 // The op with the result is the body's first, and has two operands.
+#[tactic(auto, unfolding(crate::specs::Bodies::op_counted))]
 fn op_counted(body: Parts, op: Parts) -> bool
     ensures { result ≡ op_counted body op }
 {
-    let first = place_of(op, Part::OP_NAME, 0) == place_of(body, Part::OP_NAME, 0);
-    let mut b = both(has_count(op, Part::OP_NAME, 1), first);
-    b = both(b, has_count(op, Part::RESULT_NAME, 1));
-    b = both(b, has_count(op, Part::OPERAND_NAME, 2));
-    b = both(b, has_count(op, Part::OPERAND_TYPE, 2));
-    both(b, has_count(op, Part::RESULT_TYPE, 1))
+    has_count(op, Part::OP_NAME, 1)
+        && place_of(op, Part::OP_NAME, 0) == place_of(body, Part::OP_NAME, 0)
+        && has_count(op, Part::RESULT_NAME, 1)
+        && has_count(op, Part::OPERAND_NAME, 2)
+        && has_count(op, Part::OPERAND_TYPE, 2)
+        && has_count(op, Part::RESULT_TYPE, 1)
 }
 
 // The row of the op whose quoted name starts at byte at.
+// Kept: a number, Ops::COUNT for none, since `row_at` has a row there, and typing goes by the number.
 pub fn row_named(text: &[u8], at: usize) -> usize
     ensures { result ≡ row_named text.now at }
 {
     let name = token_at(text, at);
-    find_op(text, at, name.end)
+    find_op(text, at, name.end).unwrap_or(Ops::COUNT)
 }
 
 // Whether the op of a row may be a body's.
+#[tactic(auto, unfolding(crate::specs::Bodies::is_reducer))]
 fn is_reducer(row: usize) -> bool
     ensures { result ≡ is_reducer row }
 {
-    let r = op_row(row);
-    let reducer = r.reducer;
-    may_reduce(reducer)
+    op_row(row).reducer.is_some()
 }
 
 // Whether operand j of the body is its argument i.
@@ -85,12 +85,12 @@ fn operand_is(text: &[u8], body: Parts, j: usize, i: usize) -> bool
 }
 
 // Both arguments are operands, either way round.
+#[tactic(auto, unfolding(crate::specs::Bodies::on_both))]
 fn on_both(text: &[u8], body: Parts) -> bool
     ensures { result ≡ on_both text.now body }
 {
-    let straight = both(operand_is(text, body, 0, 0), operand_is(text, body, 1, 1));
-    let turned = both(operand_is(text, body, 0, 1), operand_is(text, body, 1, 0));
-    either(straight, turned)
+    operand_is(text, body, 0, 0) && operand_is(text, body, 1, 1)
+        || operand_is(text, body, 0, 1) && operand_is(text, body, 1, 0)
 }
 
 // The return names the op's result.
@@ -116,28 +116,29 @@ fn as_first(text: &[u8], body: Parts, k: usize, j: usize) -> bool
 }
 
 // Every type in the body is that of the first argument.
+#[tactic(auto, unfolding(crate::specs::Bodies::one_type))]
 fn one_type(text: &[u8], body: Parts) -> bool
     ensures { result ≡ one_type text.now body }
 {
-    let mut b = both(
-        as_first(text, body, Part::INPUT_TYPE, 1),
-        as_first(text, body, Part::OPERAND_TYPE, 0),
-    );
-    b = both(b, as_first(text, body, Part::OPERAND_TYPE, 1));
-    b = both(b, as_first(text, body, Part::OPERAND_TYPE, 2));
-    both(b, as_first(text, body, Part::RESULT_TYPE, 0))
+    as_first(text, body, Part::INPUT_TYPE, 1)
+        && as_first(text, body, Part::OPERAND_TYPE, 0)
+        && as_first(text, body, Part::OPERAND_TYPE, 1)
+        && as_first(text, body, Part::OPERAND_TYPE, 2)
+        && as_first(text, body, Part::RESULT_TYPE, 0)
 }
 
 // A body of the form, by its parts and those of its op.
+#[tactic(auto, unfolding(crate::specs::Bodies::formed))]
 fn formed(text: &[u8], body: Parts, op: Parts) -> bool
     ensures { result ≡ formed text.now body op }
 {
     let row = row_named(text, place_of(body, Part::OP_NAME, 0));
-    let mut b = both(body_counted(body), op_counted(body, op));
-    b = both(b, is_reducer(row));
-    b = both(b, on_both(text, body));
-    b = both(b, returns_it(text, body));
-    both(b, one_type(text, body))
+    body_counted(body)
+        && op_counted(body, op)
+        && is_reducer(row)
+        && on_both(text, body)
+        && returns_it(text, body)
+        && one_type(text, body)
 }
 
 // Whether the body whose opening brace is at or after byte at is of the form.

@@ -17,8 +17,7 @@ use Rattle.scalar.proofs.Reduce.{body-commutative}
 use Rattle.text.specs.Names.{name_bytes, same_bytes, same_name}
 use Rattle.text.proofs.NameLaw.{same_bytes_lem, bytes_same}
 use Rattle.optable.specs.declared.Class.{Class}
-use Rattle.optable.specs.declared.Reducer.{Reducer}
-use Rattle.optable.specs.declared.Reducer.TheVariants.{Not, By}
+use Rattle.std.specs.Prelude.{Option, Some, None}
 use Rattle.optable.specs.Table.{row_at, may_reduce}
 use Rattle.optable.proofs.ByNamesLaw.{binary_for, reducer-class}
 use Rattle.program.specs.declared.Parts.{Parts}
@@ -65,7 +64,7 @@ binary-body Or t x y = refl
 binary-body Xor t x y = refl
 
 -- an op that may be a body's makes of two elements what the operation of the body does
-pub on-two : (row : ℕ) (b : Body) → (row_at row).reducer ≡ By b → (t : ElementType) (x y : ℕ) → on_two (row_at row).class t x y ≡ body_of b t x y
+pub on-two : (row : ℕ) (b : Body) → (row_at row).reducer ≡ Some b → (t : ElementType) (x y : ℕ) → on_two (row_at row).class t x y ≡ body_of b t x y
 on-two row b e t x y = ap (λ (c : Class). on_two c t x y) (reducer-class row b e) ∙ binary-body b t x y
 
 -- ---- the body
@@ -88,9 +87,9 @@ either true b e f g = f refl
 either false b e f g = g e
 
 -- where an op may be a body's, its operation is the one that evaluating takes
-operation-of : (r : Reducer) → may_reduce r ≡ true → r ≡ By (operation_by r)
-operation-of Not e = absurd (false≢true e)
-operation-of (By b) e = refl
+operation-of : (r : Option Body) → may_reduce r ≡ true → r ≡ Some (operation_by r)
+operation-of None e = absurd (false≢true e)
+operation-of (Some b) e = refl
 
 module _ (text : List ℕ) (at : ℕ) (fits : body_fits text at ≡ true)
     -- the names of its arguments differ: in an accepted text they do (ArgumentLaw)
@@ -102,7 +101,7 @@ module _ (text : List ℕ) (at : ℕ) (fits : body_fits text at ≡ true)
   abbrev operation : Body
   operation = reducer_at (body_row text at)
 
-  is-operation : (row_at (body_row text at)).reducer ≡ By operation
+  is-operation : (row_at (body_row text at)).reducer ≡ Some operation
   unfolding reducer_at is_reducer
   is-operation = operation-of (row_at (body_row text at)).reducer (fits-reducer text at fits)
 

@@ -11,12 +11,10 @@ use verdict_lines::print_verdict;
 fn run(rt: &HostRuntime, text: &mut [u8], out: &mut [u8])
     requires { (length text.old ≡ 65537) × (71 ≤ length out.old) }
 {
-    let t = read_text(rt, &mut rt.stdin(), text);
-    if t.failed {
+    let Some(t) = read_text(rt, &mut rt.stdin(), text) else {
         return;
-    }
-    let n = t.len;
-    let r = print_verdict(&text[..n], t.more, out);
+    };
+    let r = print_verdict(&text[..t.len], t.more, out);
     write_text(rt, &mut rt.stdout(), &out[..r]);
 }
 

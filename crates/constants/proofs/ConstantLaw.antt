@@ -1,11 +1,8 @@
 -- What `constant_into` leaves is what the op constant gives.
 -- Assumes nothing.
-use mathlib.Core.Path.{◌≡◌, sym, ap, ◌∙◌}
+use mathlib.Core.Path.{◌≡◌}
 use mathlib.Core.List.{List}
 use Prim.Native.Nat.{ℕ}
-use lib.ListN.{length, get_or}
-use Rattle.lists.specs.Lists.{tab}
-use Rattle.lists.proofs.TabLaw.{tab-get_or}
 use Rattle.run.specs.Run.{gives}
 use Rattle.run.specs.Ways.{by_fold}
 use Rattle.elementwise.specs.Elementwise.{Tensor}
@@ -16,7 +13,3 @@ use Rattle.ops.specs.Ops.{Node, hlo}
 pub constant-is : (o : Node) (args : List Tensor) (b : ℕ) {values new : Tensor} → o.kind ≡ Constant → o.values ≡ values → new ≡ values
     → by_fold hlo (hlo.way o args b) ≡ gives new
 constant-is o args b k e h = rw (k, e, h)
-
--- elements read one after the other are the list
-pub all_read : (n : ℕ) (values : List ℕ) → length values ≡ n → tab n (λ k. get_or values k 0) ≡ values
-all_read n values e = ap (λ (m : ℕ). tab m (λ k. get_or values k 0)) (sym e) ∙ tab-get_or values 0

@@ -8,9 +8,5 @@ pub fn constant_into(values: &[u64], out: &mut [u64])
     requires { length values.now ≡ length out.old }
     ensures { out.new ≡ values.now }
 {
-    let mut k = 0;
-    while 0 < out.len() - k {
-        out[k] = values[k];
-        k += 1;
-    }
+    out.copy_from_slice(values);
 }

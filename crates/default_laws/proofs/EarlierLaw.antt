@@ -11,7 +11,7 @@ use lib.Dec.{eqb}
 use lib.ListN.{get_or}
 use borrow.Author.Tests.{ne_eqb}
 use Rattle.lists.specs.Lists.{pick}
-use Rattle.judge.specs.declared.Refusal.{Refusal}
+use Rattle.judge.specs.Refusals.{Refusal}
 use Rattle.opcheck.specs.Judged.{broken_by}
 use Rattle.program.specs.declared.Parts.{Parts}
 use Rattle.program.specs.declared.Program.{Program}
@@ -20,7 +20,7 @@ use Rattle.places.specs.Places.{result_name, result_type, count_of}
 use Rattle.values.specs.declared.Value.{Value}
 use Rattle.values.specs.declared.Values.{Values}
 use Rattle.known.specs.Known.{names_fault}
-use Rattle.typing.specs.declared.Judged.{Judged}
+use Rattle.typing.specs.Typing.{Judged}
 use Rattle.typing.specs.Typing.{row_named_in, operation_of, typed_op, op_judged}
 use Rattle.opwise.specs.Opwise.{by_name, by_op, typing_of, op_refusal, ops_from}
 use Rattle.opwise.proofs.OpwiseLaw.{refused, goes_on, none_left}

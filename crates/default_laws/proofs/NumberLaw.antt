@@ -18,7 +18,7 @@ use Rattle.text.specs.Names.{word_is}
 use Rattle.text.specs.declared.Token.{Token}
 use Rattle.shape.specs.Whole.{pattern_of}
 use Rattle.types.specs.Numbers.{decimal_number, is_attribute_number, pattern_in, fitting, unfit}
-use Rattle.types.specs.declared.numbers.Number.{Number as NumberRead}
+use Rattle.types.specs.Numbers.{NumberRead}
 use Rattle.grammar.specs.Symbols.{NUMBER, AttributeName, SingleNumber, equals, dialect, array, dense, Value, among_symbols, matches, leaf_kinds}
 use Rattle.grammar.specs.Leaves.{StandFor}
 use Rattle.grammar.proofs.TableTest.{true-T}

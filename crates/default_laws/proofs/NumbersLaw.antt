@@ -34,7 +34,7 @@ use Rattle.syntax.proofs.AloneLaw.{token-again}
 use Rattle.syntax.proofs.OutlineLaw.{reads_yields}
 use Rattle.syntax.proofs.Theorems.{no-fault}
 use Rattle.optable.specs.Table.{NumbersKind as NumberList, choice_kinds, choice_form}
-use Rattle.attribute.specs.declared.Numbers.{Numbers}
+use Rattle.dimrules.specs.declared.Numbers.{Numbers}
 use Rattle.attribute.specs.Attribute.{token_after, word_form, choice_at, form_at, none_read, with_number, goes_on, numbers_from, numbers_at}
 use Rattle.judge.specs.Roles.{among_roles}
 use Rattle.judge.specs.Judge.{text_refusal}

@@ -15,7 +15,7 @@ use Rattle.text.specs.Lex.{token_at}
 use Rattle.element.specs.Types.{SlotHolds}
 use Rattle.element.specs.declared.ElementType.{ElementType}
 use Rattle.shape.specs.Index.{size}
-use Rattle.types.specs.declared.numbers.Number.{Number}
+use Rattle.types.specs.Numbers.{NumberRead}
 use Rattle.dense.specs.Dense.{Read, literal_of, read_then, mark_at, comma_before, one_at, items_at, dense_at, same_literal, dense_value}
 use Rattle.dense.proofs.LiteralLaw.{literal-value}
 
@@ -58,7 +58,7 @@ module _ (e : ElementType) where
       rw m (then-elements 0 (n + d * n) _ _ (none _ refl) (λ a. then-elements n (d * n) _ _ (y a) (λ b. items-elements n item text y d false b)))
 
   -- the slot of one literal n times
-  same-elements : (n : ℕ) (v : Number) (next : ℕ) → (v.fits ≡ true → SlotHolds e v.bits) → Elements e n (record { ok = v.fits; elements = pick v.fits (tab n (λ k. v.bits)) []; next = next })
+  same-elements : (n : ℕ) (v : NumberRead) (next : ℕ) → (v.fits ≡ true → SlotHolds e v.bits) → Elements e n (record { ok = v.fits; elements = pick v.fits (tab n (λ k. v.bits)) []; next = next })
   same-elements n v next h = go v.fits h
     where
       go : (b : Bool) → (b ≡ true → SlotHolds e v.bits) → Elements e n (record { ok = b; elements = pick b (tab n (λ k. v.bits)) []; next = next })

@@ -14,11 +14,11 @@ use Rattle.element.specs.Types.{bool_of, slot_for, SlotHolds}
 use Rattle.element.specs.declared.ElementType.{ElementType}
 use Rattle.element.proofs.Ends.{ends, zero-value}
 use Rattle.types.specs.Numbers.{decimal_number, in_type, number_in}
-use Rattle.types.specs.declared.numbers.Number.{Number}
+use Rattle.types.specs.Numbers.{NumberRead}
 use Rattle.types.proofs.NumberLaw.{fits-value}
 use Rattle.dense.specs.Dense.{boolean_of, literal_of}
 
-abbrev Slot : ElementType → Number → Type 0
+abbrev Slot : ElementType → NumberRead → Type 0
 Slot t v = v.fits ≡ true → SlotHolds t v.bits
 
 number-value : (t : ElementType) (z : ℤ) → Slot t (number_in t z)

@@ -15,11 +15,10 @@ use Rattle.shape.specs.Index.{rest}
 use Rattle.shape.proofs.DimensionLaw.{rest-cons, rest_all}
 use Rattle.laid.specs.Laid.{Laid, laid, lay}
 use Rattle.laid.proofs.LaidLaw.{lay-append}
-use Rattle.dense.specs.declared.Reading.{Reading}
 use Rattle.dense.specs.Dense.{Read, read_then, mark_at, comma_before, one_at, items_at, dense_at}
-use Rattle.dense.specs.Filled.{Outcome, outcome, after, reading_of}
+use Rattle.dense.specs.Filled.{DenseReading, Outcome, outcome, after, reading_of}
 
-module _ (r : Read) (f : ℕ → Read) (l : Laid) (p : Reading) (m : List ℕ) (e : outcome p m ≡ after r l) where
+module _ (r : Read) (f : ℕ → Read) (l : Laid) (p : DenseReading) (m : List ℕ) (e : outcome p m ≡ after r l) where
   ok_of : p.ok ≡ r.ok
   unfolding after
   ok_of = ap (λ (o : Outcome). o.ok) e
@@ -37,7 +36,7 @@ module _ (r : Read) (f : ℕ → Read) (l : Laid) (p : Reading) (m : List ℕ) (
   then-stop h = e ∙ ap (λ (d : Read). after d l) (pick_second r.ok _ r r (sym ok_of ∙ h) refl)
 
 -- marks and separators write nothing
-module _ (text : List ℕ) (at place : ℕ) {p : Reading} (m : List ℕ) where
+module _ (text : List ℕ) (at place : ℕ) {p : DenseReading} (m : List ℕ) where
   mark-read : (b : ℕ) → p ≡ reading_of (mark_at b text at) place → outcome p m ≡ after (mark_at b text at) (laid place m)
   unfolding after mark_at lay
   mark-read b e = rw e
@@ -58,22 +57,19 @@ module _ (item : ℕ → Read) (size j : ℕ) (text : List ℕ) (at : ℕ) where
   items_more h = let e : size - j ≡ suc (size - (j + 1)) = omega arith in rw (e, ne_eqb (j + 1) 0 (λ z. omega arith))
 
   module _ (place : ℕ) (m : List ℕ) where
-    pub close-items : {p : Reading} → size ≤ j → p ≡ reading_of (mark_at 93 text at) place → outcome p m ≡ after (items_at item (size - j) (eqb j 0) text at) (laid place m)
+    pub close-items : {p : DenseReading} → size ≤ j → p ≡ reading_of (mark_at 93 text at) place → outcome p m ≡ after (items_at item (size - j) (eqb j 0) text at) (laid place m)
     close-items h e = rw (items-end h) (mark-read text at place m 93 e)
 
-    module _ {s : Reading} (h : j < size) (e : s ≡ reading_of (comma_before (eqb j 0) text at) place) where
+    module _ {s : DenseReading} (h : j < size) (e : s ≡ reading_of (comma_before (eqb j 0) text at) place) where
       pub no-separator : s.ok ≡ false → outcome s m ≡ after (items_at item (size - j) (eqb j 0) text at) (laid place m)
       no-separator n = rw (items_more h) (then-stop _ _ _ _ _ (before-read text at place m (eqb j 0) e) n)
 
-      module _ {r : Reading} (m' : List ℕ) (o : s.ok ≡ true) (i : outcome r m' ≡ after (item s.next) (laid place m)) where
-        at_place : outcome r m' ≡ after (item s.next) (laid s.place m)
-        at_place = let p : s.place ≡ place = ap (λ (x : Reading). x.place) e in rw p i
-
+      module _ {r : DenseReading} (m' : List ℕ) (o : s.ok ≡ true) (i : outcome r m' ≡ after (item s.next) (laid s.place m)) where
         pub no_item : r.ok ≡ false → outcome r m' ≡ after (items_at item (size - j) (eqb j 0) text at) (laid place m)
-        no_item n = rw (items_more h) (then-stop _ _ _ _ _ at_place n ∙ then_ok _ _ _ _ _ (before-read text at place m (eqb j 0) e) o)
+        no_item n = rw (items_more h) (then-stop _ _ _ _ _ i n ∙ then_ok _ _ _ _ _ (before-read text at place m (eqb j 0) e) o)
 
         pub next-item : r.ok ≡ true → after (items_at item (size - (j + 1)) (eqb (j + 1) 0) text r.next) (laid r.place m') ≡ after (items_at item (size - j) (eqb j 0) text at) (laid place m)
-        next-item y = rw (items_more h) (then_ok _ _ _ _ _ at_place y ∙ then_ok _ _ _ _ _ (before-read text at place m (eqb j 0) e) o)
+        next-item y = rw (items_more h) (then_ok _ _ _ _ _ i y ∙ then_ok _ _ _ _ _ (before-read text at place m (eqb j 0) e) o)
 
 -- the last k of the dimensions
 module _ (e : ElementType) (dims : List ℕ) (rank k : ℕ) (text : List ℕ) (at : ℕ) where
@@ -90,14 +86,10 @@ module _ (e : ElementType) (dims : List ℕ) (rank k : ℕ) (text : List ℕ) (a
         let n : rank - k + 1 ≡ rank - (k - 1) = omega arith in
         rw (rest-cons dims rank (rank - k) (omega arith) l, n)
 
-    module _ {o : Reading} (place : ℕ) (m : List ℕ) (q : o ≡ reading_of (mark_at 91 text at) place) where
+    module _ {o : DenseReading} (place : ℕ) (m : List ℕ) (q : o ≡ reading_of (mark_at 91 text at) place) where
       pub no-bracket : o.ok ≡ false → outcome o m ≡ after (dense_at e (rest dims rank (rank - k)) text at) (laid place m)
       no-bracket n = rw dense-open (then-stop _ _ _ _ _ (mark-read text at place m 91 q) n)
 
-      pub first-item : o.ok ≡ true → after (items_at (λ b. dense_at e (rest dims rank (rank - (k - 1))) text b) (get_or dims (rank - k) 0 - 0) (eqb 0 0) text o.next) (laid place m)
+      pub first-item : o.ok ≡ true → after (items_at (λ b. dense_at e (rest dims rank (rank - (k - 1))) text b) (get_or dims (rank - k) 0 - 0) (eqb 0 0) text o.next) (laid o.place m)
           ≡ after (dense_at e (rest dims rank (rank - k)) text at) (laid place m)
-      first-item y =
-          let p : o.place ≡ place = ap (λ (x : Reading). x.place) q in
-          rw (dense-open, sub-zero)
-          (ap (λ (x : ℕ). after (items_at (λ b. dense_at e (rest dims rank (rank - (k - 1))) text b) (get_or dims (rank - k) 0) true text o.next) (laid x m)) (sym p)
-          ∙ then_ok _ _ _ _ _ (mark-read text at place m 91 q) y)
+      first-item y = rw (dense-open, sub-zero) (then_ok _ _ _ _ _ (mark-read text at place m 91 q) y)

@@ -10,16 +10,16 @@ use Rattle.element.specs.Types.{bool_of}
 use Rattle.element.specs.declared.ElementType.{ElementType}
 use Rattle.shape.specs.Index.{size}
 use Rattle.types.specs.Numbers.{decimal_number, number_in}
-use Rattle.types.specs.declared.numbers.Number.{Number}
+use Rattle.types.specs.Numbers.{NumberRead}
 
 -- "Booleans are `true` and `false`"; no number is one
-unfoldable pub boolean_of : List ℕ → Token → Number
+unfoldable pub boolean_of : List ℕ → Token → NumberRead
 boolean_of text t =
     pick (word_is (ascii "true") text t.start t.end) (record { fits = true; bits = 1 })
     (record { fits = word_is (ascii "false") text t.start t.end; bits = 0 })
 
 -- a literal of the type: whether the token is one, and its slot. "numbers are decimal", in the type's range; `true` and `false` are no numbers
-unfoldable pub literal_of : ElementType → List ℕ → Token → Number
+unfoldable pub literal_of : ElementType → List ℕ → Token → NumberRead
 literal_of e text t =
     pick (bool_of e) (boolean_of text t)
     (pick (eqb t.kind 2) (number_in e (decimal_number text t.start)) (record { fits = false; bits = 0 }))

@@ -2,20 +2,33 @@
 -- Assumes nothing.
 use mathlib.Core.Path.{◌≡◌, refl, sym, ap, ◌∙◌}
 use mathlib.Core.Bool.{Bool, true, false, ◌&&◌, cond}
-use Prim.Native.Nat.{ℕ, suc, ◌+◌, ◌-◌, ◌*◌, ◌/◌, ◌%◌, ◌≤◌, ◌<◌}
-use native.Mathlib.Nat.{div-add-mod, div-add-mod', mod-lt, div-lt_iff_lt-mul, mul-le-mul, mul-add, mul_left_comm, add-div_right, div-eq_of_lt}
+use Prim.Native.Nat.{ℕ, suc, ◌+◌, ◌-◌, ◌*◌, ◌/◌, ◌%◌, ◌^◌, ◌≤◌, ◌<◌}
+use native.Mathlib.Nat.{div-add-mod, div-add-mod', mod-lt, div-lt_iff_lt-mul, mul-le-mul, mul-add, mul_left_comm, add-mul, div-eq_of_lt-le}
+use Rattle.std.specs.Int.{div_ceil}
+use Rattle.std.proofs.lemmas.Grind.{div_ceil_times}
 use native.Mathlib.Omega.{arith}
 use lib.Dec.{ltb, eqb}
 use lib.IntN.{ℤ, pos, negsuc, ◌+ℤ◌, ◌*ℤ◌, +ℤ_assoc, +ℤ_comm}
 use borrow.Author.Tests.{ltb-false, le-ltb, eqb-true, eqb-false, eq-eqb, ne_eqb}
-use Rattle.dimrules.specs.Whole.{up_of, down_of, eq_int, ceil_div}
+use lib.Signed.{le_z}
+use Rattle.lists.specs.Lists.{pick}
+use Rattle.dimrules.specs.Whole.{up_of, down_of, eq_int, ceil_div, non_negative}
 
 -- the ceiling, with no sum that passes 64 bits
-pub ceil-zero : (b : ℕ) → 0 < b → ceil_div 0 b ≡ 0
-ceil-zero b h = div-eq_of_lt (omega arith)
+pub ceil-same : (a b : ℕ) → 0 < b → div_ceil a b ≡ ceil_div a b
+ceil-same a b h =
+    let e = div_ceil_times a b h in
+    let m : (div_ceil a b + 1) * b ≡ div_ceil a b * b + 1 * b = add-mul (div_ceil a b) 1 b in
+    sym (div-eq_of_lt-le {k = div_ceil a b} b {m = a + b - 1} (omega (arith, e.1)) (omega (arith, e.0, m)))
 
-pub ceil-pos : (a b : ℕ) → 0 < a → 0 < b → ceil_div a b ≡ (a - 1) / b + 1
-ceil-pos a b p q = ap (λ (n : ℕ). n / b) (let e : a + b - 1 ≡ (a - 1) + b = omega arith in e) ∙ add-div_right (a - 1) q
+-- a number that is not negative stands in the lower half of the patterns
+pub lower-half : (w : ℕ) → non_negative w ≡ true → ltb w (2 ^ 63) ≡ true
+unfolding non_negative
+lower-half w e = go (ltb w (2 ^ 63)) e
+  where
+    go : (b : Bool) → le_z (pos 0) (pick b (pos w) (negsuc (2 ^ 64 - 1 - w))) ≡ true → b ≡ true
+    go true e = refl
+    go false e = e
 
 -- two tests of facts that follow from each other are the same
 pub eqb-iff : (a b c d : ℕ) → (a ≡ b → c ≡ d) → (c ≡ d → a ≡ b) → eqb a b ≡ eqb c d

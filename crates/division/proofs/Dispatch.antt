@@ -4,47 +4,43 @@ use mathlib.Core.Path.{◌≡◌, refl, sym, ap, ap₂, ◌∙◌}
 use mathlib.Core.Bool.{Bool, true, false}
 use Prim.Native.Nat.{ℕ, ◌/◌, ◌%◌, ◌^◌, ◌<◌}
 use native.Mathlib.Nat.{lt_of_le_of_lt, div-le_self, mod-le}
-use native.Mathlib.Omega.{arith}
-use lib.IntN.{ℤ}
+use lib.IntN.{ℤ, pos}
 use lib.Signed.{mag, quot_z, rem_z}
 use lib.Dec.{eqb}
-use mir.Syntax.{Width, w64}
-use mir.Val.{SFits, to_z, of_z, bits}
+use mir.Syntax.{w64}
+use mir.Val.{to_z, of_z}
+use mir.Facts.{to_z-of_z}
 use Rattle.lists.specs.Lists.{pick}
-use Rattle.element.specs.Types.{read, wrap, width_of, signed_of, value_of, wrap_to, slot_for, slot_of, SlotHolds}
+use Rattle.element.specs.Types.{wrap, width_of, signed_of, value_of, wrap_to, slot_for, slot_of, SlotHolds}
 use Rattle.element.specs.declared.ElementType.{ElementType}
-use Rattle.element.specs.declared.ElementType.TheVariants.{I1, I8, I16, I32, I64, U8, U16, U32, U64}
-use Rattle.element.proofs.Signed.{value-signed, value-unsigned}
+use Rattle.element.proofs.Signed.{signed-is, slot-is, value-signed, value-unsigned}
+use Rattle.element.proofs.Wrap.{read-slot}
 use Rattle.element.proofs.Ends.{zero-value}
 use Rattle.element.proofs.Range.{signed_range, unsigned-range, unsigned-fixed, wrapped-value}
-use Rattle.division.proofs.Cast.{held}
-use Rattle.division.proofs.Quotient.{half}
-use Rattle.division.specs.Division.{result_of, division_of}
+use Rattle.division.specs.Division.{OfType, result_of, division_of}
 use Rattle.division.specs.declared.Division.{Division}
 
--- a signed type of none of the narrower widths has 64 bits
-pub sixty-four : (t : ElementType) → signed_of t ≡ true → (width_of t ≡ 8 → ⊥) → (width_of t ≡ 16 → ⊥) → (width_of t ≡ 32 → ⊥) → width_of t ≡ 64
-sixty-four I1 g a b c = let z : ◌≡◌ {A = ℕ} 0 1 = cc in absurd (omega arith)
-sixty-four I8 g a b c = absurd (a refl)
-sixty-four I16 g a b c = absurd (b refl)
-sixty-four I32 g a b c = absurd (c refl)
-sixty-four I64 g a b c = refl
-sixty-four U8 g a b c = absurd (a refl)
-sixty-four U16 g a b c = absurd (b refl)
-sixty-four U32 g a b c = absurd (c refl)
-sixty-four U64 g a b c = refl
+-- a signed local is read back from its bits, `to_z w (of_z w a)`, and what a call returns comes with the bound of its magnitude alone
+held : {r x : ℤ} → mag r < 2 ^ 63 → r ≡ x → to_z w64 (of_z w64 r) ≡ x
+held h e = to_z-of_z {w = w64} (record { sfits = h }) ∙ e
 
--- of a signed type of w's bits: a value's slot s, read as x, fits w; and the slot of what was divided at w
-module _ (w : Width) (t : ElementType) (g : signed_of t ≡ true) (e : width_of t ≡ bits w) where
-  pub slot-fits : (s : ℕ) → SlotHolds t s → {x : ℤ} → mag x < 2 ^ 63 → x ≡ read true 64 s → SFits w (to_z w64 (of_z w64 x))
-  slot-fits s v h q = rw (held w64 h q) (record { sfits = rw (value-signed t s g, e, ← half w) at (signed_range t s v g) })
+-- a slot of a signed type, cast to a signed number
+module _ (t : ElementType) (g : signed_of t ≡ true) where
+  cast-value : (s : ℕ) {x : ℤ} → mag x < 2 ^ 63 → x ≡ to_z w64 s → to_z w64 (of_z w64 x) ≡ value_of t s
+  cast-value s h e = held h e ∙ signed-is s ∙ sym (value-signed t s g)
 
-  pub divided-slot : (op : Division) (a b : ℕ) {x y r : ℤ} → mag x < 2 ^ 63 → x ≡ read true 64 a → mag y < 2 ^ 63 → y ≡ read true 64 b → mag r < 2 ^ 63
-      → r ≡ wrap true (bits w) (result_of op (to_z w64 (of_z w64 x)) (to_z w64 (of_z w64 y))) → slot_of (to_z w64 (of_z w64 r)) ≡ wrap_to t (result_of op (value_of t a) (value_of t b))
+  pub cast-fits : (s : ℕ) → SlotHolds t s → {x : ℤ} → mag x < 2 ^ 63 → x ≡ to_z w64 s → OfType t (to_z w64 (of_z w64 x))
+  cast-fits s v h e = rw (cast-value s h e) (signed_range t s v g)
+
+  pub cast-not-zero : (s : ℕ) → s < 2 ^ 64 → (s ≡ 0 → ⊥) → {x : ℤ} → mag x < 2 ^ 63 → x ≡ to_z w64 s → to_z w64 (of_z w64 x) ≡ pos 0 → ⊥
+  cast-not-zero s f n h e z = n (sym (read-slot true 64 s f) ∙ ap slot_of (sym (signed-is s) ∙ sym (held h e) ∙ z))
+
+  pub divided-slot : (op : Division) (a b : ℕ) {x y r : ℤ} → mag x < 2 ^ 63 → x ≡ to_z w64 a → mag y < 2 ^ 63 → y ≡ to_z w64 b → mag r < 2 ^ 63
+      → r ≡ wrap true (width_of t) (result_of op (to_z w64 (of_z w64 x)) (to_z w64 (of_z w64 y))) → of_z w64 (to_z w64 (of_z w64 r)) ≡ wrap_to t (result_of op (value_of t a) (value_of t b))
   unfolding wrap_to slot_for
-  divided-slot op a b hx ex hy ey hr er =
-      ap slot_of (held w64 hr er ∙ ap₂ (λ (u v : ℤ). wrap true (bits w) (result_of op u v)) (held w64 hx ex) (held w64 hy ey))
-      ∙ rw (value-signed t a g, value-signed t b g, e, g)
+  divided-slot op a b {r} hx ex hy ey hr er =
+      ap (of_z w64) (held {r = r} {x = r} hr refl) ∙ slot-is (record { sfits = hr })
+      ∙ ap slot_of (er ∙ ap₂ (λ (u v : ℤ). wrap true (width_of t) (result_of op u v)) (cast-value a hx ex) (cast-value b hy ey)) ∙ rw g
 
 module _ (t : ElementType) (g : signed_of t ≡ false) (a b : ℕ) (v : SlotHolds t a) where
   pub unsigned-quotient : a / b ≡ wrap_to t (quot_z (value_of t a) (value_of t b))

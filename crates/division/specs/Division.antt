@@ -1,12 +1,10 @@
 -- Quotients and remainders (01, "Element by element": divide and remainder).
 -- Assumes nothing.
-use Rattle.std.specs.Prelude.{ℕ, ℤ, eqb, true}
-use Rattle.std.specs.Int.Signed.{quot_z, rem_z}
+use Rattle.std.specs.Prelude.{ℕ, ◌-◌, ◌^◌, ◌<◌, ℤ, eqb, true, Option, Some, None}
+use Rattle.std.specs.Int.Signed.{quot_z, rem_z, mag}
 use Rattle.lists.specs.Lists.{pick}
-use Rattle.element.specs.Types.{value_of, wrap_to, wrap}
+use Rattle.element.specs.Types.{width_of, value_of, wrap_to, wrap}
 use Rattle.element.specs.declared.ElementType.{ElementType}
-use Rattle.division.specs.declared.Divided.{Divided}
-use Rattle.division.specs.declared.Divided.TheVariants.{Value, ByZero}
 use Rattle.division.specs.declared.Division.{Division}
 use Rattle.division.specs.declared.Division.TheVariants.{Divide, Remainder}
 
@@ -19,10 +17,14 @@ abbrev pub result_of : Division → ℤ → ℤ → ℤ
 result_of Divide = quot_z
 result_of Remainder = rem_z
 
+-- the number is one of a signed type's
+abbrev pub OfType : ElementType → ℤ → Type 0
+OfType t z = mag z < 2 ^ (width_of t - 1)
+
 -- an answer's refusal ("12 | zero divisor") and its value ("Unnamed ones are 0")
-abbrev pub divided_numbers : Divided → ℕ × ℕ
-divided_numbers (Value v) = (0, v)
-divided_numbers ByZero = (12, 0)
+abbrev pub divided_numbers : Option ℕ → ℕ × ℕ
+divided_numbers (Some v) = (0, v)
+divided_numbers None = (12, 0)
 
 -- refusal and value on slots of a type
 unfoldable pub division_of : Division → ElementType → ℕ → ℕ → ℕ × ℕ

@@ -3,10 +3,8 @@
 
 ghost use Rattle.std.specs.Prelude.{◌≡◌, true, pos};
 ghost use Rattle.std.specs.Int.Signed.{rem_z};
-ghost use Rattle.std.specs.Int.{w8, w16, w32, w64};
-ghost use Rattle.std.proofs.Common.{SFits};
-ghost use Rattle.element.specs.Types.{SlotHolds, signed_of, wrap, value_of, wrap_to};
-ghost use Rattle.division.specs.Division.{quotient_of, result_of, divided_numbers, division_of};
+ghost use Rattle.element.specs.Types.{SlotHolds, signed_of, width_of, wrap, value_of, wrap_to};
+ghost use Rattle.division.specs.Division.{quotient_of, result_of, OfType, divided_numbers, division_of};
 
 use element::ElementType;
 
@@ -17,23 +15,13 @@ pub enum Division {
     Remainder,
 }
 
-// A quotient or a remainder; none for a zero divisor (01's numbers: `numbersOf`).
-#[derive(Clone, Copy)]
-pub enum Divided {
-    Value(u64),
-    ByZero,
-}
-
+// Kept: a signed quotient and remainder at each width, a rule of the project.
 // The quotient toward zero; of the lowest value by -1 the lowest value.
 pub fn quotient_i8(a: i8, b: i8) -> i8
     requires { b ≡ pos 0 → ⊥ }
     ensures { result ≡ quotient_of 8 a b }
 {
-    if b == -1 {
-        if a == -128 { a } else { 0 - a }
-    } else {
-        a / b
-    }
+    a.wrapping_div(b)
 }
 
 // The remainder, with the dividend's sign; by -1 it is 0.
@@ -41,7 +29,7 @@ pub fn remainder_i8(a: i8, b: i8) -> i8
     requires { b ≡ pos 0 → ⊥ }
     ensures { result ≡ rem_z a b }
 {
-    if b == -1 { 0 } else { a % b }
+    a.wrapping_rem(b)
 }
 
 // The quotient toward zero; of the lowest value by -1 the lowest value.
@@ -49,11 +37,7 @@ pub fn quotient_i16(a: i16, b: i16) -> i16
     requires { b ≡ pos 0 → ⊥ }
     ensures { result ≡ quotient_of 16 a b }
 {
-    if b == -1 {
-        if a == -32768 { a } else { 0 - a }
-    } else {
-        a / b
-    }
+    a.wrapping_div(b)
 }
 
 // The remainder, with the dividend's sign; by -1 it is 0.
@@ -61,7 +45,7 @@ pub fn remainder_i16(a: i16, b: i16) -> i16
     requires { b ≡ pos 0 → ⊥ }
     ensures { result ≡ rem_z a b }
 {
-    if b == -1 { 0 } else { a % b }
+    a.wrapping_rem(b)
 }
 
 // The quotient toward zero; of the lowest value by -1 the lowest value.
@@ -69,11 +53,7 @@ pub fn quotient_i32(a: i32, b: i32) -> i32
     requires { b ≡ pos 0 → ⊥ }
     ensures { result ≡ quotient_of 32 a b }
 {
-    if b == -1 {
-        if a == -2147483648 { a } else { 0 - a }
-    } else {
-        a / b
-    }
+    a.wrapping_div(b)
 }
 
 // The remainder, with the dividend's sign; by -1 it is 0.
@@ -81,7 +61,7 @@ pub fn remainder_i32(a: i32, b: i32) -> i32
     requires { b ≡ pos 0 → ⊥ }
     ensures { result ≡ rem_z a b }
 {
-    if b == -1 { 0 } else { a % b }
+    a.wrapping_rem(b)
 }
 
 // The quotient toward zero; of the lowest value by -1 the lowest value.
@@ -89,11 +69,7 @@ pub fn quotient_i64(a: i64, b: i64) -> i64
     requires { b ≡ pos 0 → ⊥ }
     ensures { result ≡ quotient_of 64 a b }
 {
-    if b == -1 {
-        if a == -9223372036854775808 { a } else { 0 - a }
-    } else {
-        a / b
-    }
+    a.wrapping_div(b)
 }
 
 // The remainder, with the dividend's sign; by -1 it is 0.
@@ -101,56 +77,23 @@ pub fn remainder_i64(a: i64, b: i64) -> i64
     requires { b ≡ pos 0 → ⊥ }
     ensures { result ≡ rem_z a b }
 {
-    if b == -1 { 0 } else { a % b }
+    a.wrapping_rem(b)
 }
 
-// Either, of two numbers of 8 bits.
-fn divide_8(op: Division, x: i64, y: i64) -> i64
-    requires { SFits w8 x × (SFits w8 y × (y ≡ pos 0 → ⊥)) }
-    ensures { result ≡ wrap true 8 (result_of op x y) }
+// Either, of two numbers of a signed type, at its width.
+fn divide_numbers(op: Division, t: ElementType, x: i64, y: i64) -> i64
+    requires { (signed_of t ≡ true) × (OfType t x × (OfType t y × (y ≡ pos 0 → ⊥))) }
+    ensures { result ≡ wrap true (width_of t) (result_of op x y) }
 {
-    let a = x as i8;
-    let b = y as i8;
-    match op {
-        Division::Divide => quotient_i8(a, b) as i64,
-        Division::Remainder => remainder_i8(a, b) as i64,
-    }
-}
-
-// Either, of two numbers of 16 bits.
-fn divide_16(op: Division, x: i64, y: i64) -> i64
-    requires { SFits w16 x × (SFits w16 y × (y ≡ pos 0 → ⊥)) }
-    ensures { result ≡ wrap true 16 (result_of op x y) }
-{
-    let a = x as i16;
-    let b = y as i16;
-    match op {
-        Division::Divide => quotient_i16(a, b) as i64,
-        Division::Remainder => remainder_i16(a, b) as i64,
-    }
-}
-
-// Either, of two numbers of 32 bits.
-fn divide_32(op: Division, x: i64, y: i64) -> i64
-    requires { SFits w32 x × (SFits w32 y × (y ≡ pos 0 → ⊥)) }
-    ensures { result ≡ wrap true 32 (result_of op x y) }
-{
-    let a = x as i32;
-    let b = y as i32;
-    match op {
-        Division::Divide => quotient_i32(a, b) as i64,
-        Division::Remainder => remainder_i32(a, b) as i64,
-    }
-}
-
-// Either, of two numbers of 64 bits.
-fn divide_64(op: Division, x: i64, y: i64) -> i64
-    requires { y ≡ pos 0 → ⊥ }
-    ensures { result ≡ wrap true 64 (result_of op x y) }
-{
-    match op {
-        Division::Divide => quotient_i64(x, y),
-        Division::Remainder => remainder_i64(x, y),
+    match (op, t.width()) {
+        (Division::Divide, 8) => i64::from(quotient_i8(x as i8, y as i8)),
+        (Division::Divide, 16) => i64::from(quotient_i16(x as i16, y as i16)),
+        (Division::Divide, 32) => i64::from(quotient_i32(x as i32, y as i32)),
+        (Division::Divide, _) => quotient_i64(x, y),
+        (Division::Remainder, 8) => i64::from(remainder_i8(x as i8, y as i8)),
+        (Division::Remainder, 16) => i64::from(remainder_i16(x as i16, y as i16)),
+        (Division::Remainder, 32) => i64::from(remainder_i32(x as i32, y as i32)),
+        (Division::Remainder, _) => remainder_i64(x, y),
     }
 }
 
@@ -159,30 +102,22 @@ fn divide_signed(op: Division, t: ElementType, a: u64, b: u64) -> u64
     requires { (signed_of t ≡ true) × (SlotHolds t a × (SlotHolds t b × (b ≡ 0 → ⊥))) }
     ensures { result ≡ wrap_to t (result_of op (value_of t a) (value_of t b)) }
 {
-    let x = element::signed_of(a);
-    let y = element::signed_of(b);
-    let n = t.width();
-    match n {
-        8 => element::slot_of(divide_8(op, x, y)),
-        16 => element::slot_of(divide_16(op, x, y)),
-        32 => element::slot_of(divide_32(op, x, y)),
-        _ => element::slot_of(divide_64(op, x, y)),
-    }
+    divide_numbers(op, t, a.cast_signed(), b.cast_signed()).cast_unsigned()
 }
 
-// divide or remainder of two values of the type.
-pub fn apply_division(op: Division, t: ElementType, a: u64, b: u64) -> Divided
+// divide or remainder of two values of the type; None for a zero divisor.
+pub fn apply_division(op: Division, t: ElementType, a: u64, b: u64) -> Option<u64>
     requires { SlotHolds t a × SlotHolds t b }
     ensures { divided_numbers result ≡ division_of op t a b }
 {
     if b == 0 {
-        return Divided::ByZero;
-    }
-    if t.is_signed() {
-        return Divided::Value(divide_signed(op, t, a, b));
-    }
-    match op {
-        Division::Divide => Divided::Value(a / b),
-        Division::Remainder => Divided::Value(a % b),
+        None
+    } else if t.is_signed() {
+        Some(divide_signed(op, t, a, b))
+    } else {
+        match op {
+            Division::Divide => Some(a / b),
+            Division::Remainder => Some(a % b),
+        }
     }
 }

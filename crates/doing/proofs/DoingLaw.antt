@@ -19,8 +19,8 @@ use Rattle.shape.specs.declared.Shape.{Shape}
 use Rattle.maps.specs.Concatenation.{no_shape, shapes_of, inputs_in, concatenated}
 use Rattle.maps.specs.Holds.{ConcatenateHolds, InputsLaid}
 use Rattle.elementwise.specs.Elementwise.{Tensor, Holds, step_numbers, out_numbers, divided, Divides}
-use Rattle.elementwise.specs.declared.Step.{Step}
-use Rattle.elementwise.specs.declared.Step.TheVariants.{Filled, Zero}
+use Rattle.std.specs.Prelude.{Ok, Err}
+use Rattle.elementwise.specs.declared.ZeroDivisor.{ZeroDivisor}
 use Rattle.ops.specs.declared.Kind.{Kind}
 use Rattle.ops.specs.declared.Kind.TheVariants.{Constant, Iota, Elementwise, Pairwise, Quotient, Compare, Convert, Select, Clamp, Moved, Pad, Concatenate, DynamicSlice, Reduce}
 use Rattle.apply.specs.Apply.{TaskReady, task_outcome}
@@ -34,59 +34,42 @@ use Rattle.facts.specs.Facts.{AcceptedAs, DoneByTask, task_of, Stretched, Argume
 use Rattle.facts.proofs.OtherLaw.{quotient-ready, quotient_is, constant-ready, concatenate-ready, concatenate-inputs, concatenate-is}
 use Rattle.facts.proofs.OutcomeLaw.{outcome-is}
 use Rattle.facts.proofs.ReadyLaw.{ready}
-use Rattle.doing.specs.Doing.{size_of, arg_in, args_in, arguments_at, operand_in, start_in, class_of_kind, op_gives, OperandsPlaced, Done, Gives, Answers}
-use Rattle.doing.specs.declared.Class.{Class}
-use Rattle.doing.specs.declared.Class.TheVariants.{Read, Divided, Joined, ByTask}
+use Rattle.doing.specs.Doing.{size_of, arg_in, args_in, arguments_at, operand_in, start_in, op_gives, OperandsPlaced, Done, Gives, Answers}
 
--- ---- classes
-
--- what a class says of the kind
-abbrev pub InClass : Class → Kind → Type 0
-InClass Read kind = kind ≡ Constant
-InClass (Divided op) kind = kind ≡ Quotient op
-InClass Joined kind = kind ≡ Concatenate
-InClass ByTask kind = DoneByTask kind
-
-own-class : (kind : Kind) → InClass (class_of_kind kind) kind
-own-class Constant = refl
-own-class (Quotient op) = refl
-own-class Concatenate = refl
-own-class Iota = tt
-own-class (Elementwise op) = tt
-own-class (Pairwise op) = tt
-own-class (Compare d) = tt
-own-class Convert = tt
-own-class Select = tt
-own-class Clamp = tt
-own-class (Moved m) = tt
-own-class Pad = tt
-own-class DynamicSlice = tt
-own-class (Reduce body) = tt
-
-pub in-class : (c : Class) (kind : Kind) → c ≡ class_of_kind kind → (d : Class) → c ≡ d → InClass d kind
-in-class c kind e d q = subst (λ (k : Class). InClass k kind) (sym e ∙ q) (own-class kind)
+-- a kind that is none of the three is done by a task
+pub by-task : (kind : Kind) → (kind ≡ Constant → ⊥) → ((op : Division) → kind ≡ Quotient op → ⊥) → (kind ≡ Concatenate → ⊥) → DoneByTask kind
+by-task Constant a b c = absurd (a refl)
+by-task (Quotient op) a b c = absurd (b op refl)
+by-task Concatenate a b c = absurd (c refl)
+by-task Iota a b c = tt
+by-task (Elementwise op) a b c = tt
+by-task (Pairwise op) a b c = tt
+by-task (Compare d) a b c = tt
+by-task Convert a b c = tt
+by-task Select a b c = tt
+by-task Clamp a b c = tt
+by-task (Moved m) a b c = tt
+by-task Pad a b c = tt
+by-task DynamicSlice a b c = tt
+by-task (Reduce body) a b c = tt
 
 -- ---- answers
 
 -- an op that gives its tensor
-pub given : {number : ℕ} {m : Out Tensor ℕ} {old new : List ℕ} → m ≡ gives new → Done number m Filled old new
-given {number} {m} {old} {new} e = subst (λ (k : Out Tensor ℕ). Done number k Filled old new) (sym e) (record { answers = refl; leaves = refl })
+pub given : {number : ℕ} {m : Out Tensor ℕ} {old new : List ℕ} → m ≡ gives new → Done number m (Ok tt) old new
+given {number} {m} {old} {new} e = subst (λ (k : Out Tensor ℕ). Done number k (Ok tt) old new) (sym e) (record { answers = refl; leaves = refl })
 
-pub gives-done : (kind : Kind) (o : Operation) (args : List Tensor) {number : ℕ} {old new : List ℕ} → Gives kind o args new → Answers number kind o args Filled old new
+pub gives-done : (kind : Kind) (o : Operation) (args : List Tensor) {number : ℕ} {old new : List ℕ} → Gives kind o args new → Answers number kind o args (Ok tt) old new
 gives-done kind o args g values = given (g values)
 
 -- a division that met no zero divisor, and one that did, whose stretch was set to zeros
-kept : {number : ℕ} (m : Out Tensor ℕ) (f : ℕ → Tensor) {old new : List ℕ} → step_numbers Filled ≡ out_numbers number m → new ≡ on_out m (λ v. v) f → Done number m Filled old new
+kept : {number : ℕ} (m : Out Tensor ℕ) (f : ℕ → Tensor) {old new : List ℕ} → step_numbers (Ok tt) ≡ out_numbers number m → new ≡ on_out m (λ v. v) f → Done number m (Ok tt) old new
 kept (gives v) f e q = record { answers = e; leaves = q }
 kept (stops k) f e q = absurd (let z : ◌≡◌ {A = ℕ} 0 12 = ap (λ n. n.0) e in omega arith)
 
-zeroed : {number : ℕ} (m : Out Tensor ℕ) {k z : ℕ} {old new : List ℕ} → step_numbers (Zero k z) ≡ out_numbers number m → new ≡ replicate (length old) 0 → Done number m (Zero k z) old new
+zeroed : {number : ℕ} (m : Out Tensor ℕ) {e : ZeroDivisor} {old new : List ℕ} → step_numbers (Err e) ≡ out_numbers number m → new ≡ replicate (length old) 0 → Done number m (Err e) old new
 zeroed (gives v) e q = absurd (let z : ◌≡◌ {A = ℕ} 12 0 = ap (λ n. n.0) e in omega arith)
 zeroed (stops k) e q = record { answers = e; leaves = q }
-
-pub zeros : (n : ℕ) → tab {A = ℕ} n (λ k. 0) ≡ replicate n 0
-zeros zero = refl
-zeros (suc n) = ap (λ (l : List ℕ). 0 ∷ l) (zeros n)
 
 take-tab : (n m : ℕ) (f : ℕ → ℕ) → n ≤ m → take n (tab m f) ≡ tab n f
 take-tab zero m f h = refl
@@ -163,16 +146,13 @@ module _ (o : Operation) (places slots : List ℕ) where
     unfolding op_gives
     is-divided values = rw (ex, ey) (quotient_is op o a values [] (args_in o places slots) _ _ _ old arguments f)
 
-    module _ {number : ℕ} {s : Step} {mid : List ℕ} (d : Divides number op o.result.element x y s old mid) where
-      pub quotient-filled : s ≡ Filled → Answers number (Quotient op) o (args_in o places slots) Filled old mid
-      quotient-filled e values =
-          subst (λ (m : Out Tensor ℕ). Done number m Filled old mid) (sym (is-divided values)) (kept _ _ (ap step_numbers (sym e) ∙ d.answers) d.leaves)
+    pub quotient-filled : {number : ℕ} {mid : List ℕ} → Divides number op o.result.element x y (Ok tt) old mid → Answers number (Quotient op) o (args_in o places slots) (Ok tt) old mid
+    quotient-filled {number} {mid} d values = subst (λ (m : Out Tensor ℕ). Done number m (Ok tt) old mid) (sym (is-divided values)) (kept _ _ d.answers d.leaves)
 
-      pub quotient-zeroed : {k z : ℕ} {new : List ℕ} → s ≡ Zero k z → length mid ≡ length old → new ≡ replicate (length mid) 0
-          → Answers number (Quotient op) o (args_in o places slots) (Zero k z) old new
-      quotient-zeroed {k} {z} {new} e l q values =
-          subst (λ (m : Out Tensor ℕ). Done number m (Zero k z) old new) (sym (is-divided values))
-          (zeroed _ (ap step_numbers (sym e) ∙ d.answers) (q ∙ ap (λ (n : ℕ). replicate n 0) l))
+    pub quotient-zeroed : {number : ℕ} {z : ZeroDivisor} {mid new : List ℕ} → Divides number op o.result.element x y (Err z) old mid → length mid ≡ length old → new ≡ replicate (length mid) 0
+        → Answers number (Quotient op) o (args_in o places slots) (Err z) old new
+    quotient-zeroed {number} {z} {mid} {new} d l q values =
+        subst (λ (m : Out Tensor ℕ). Done number m (Err z) old new) (sym (is-divided values)) (zeroed _ d.answers (q ∙ ap (λ (n : ℕ). replicate n 0) l))
 
   -- ---- concatenate
 

@@ -1,22 +1,20 @@
 -- One op on operands that stand in the store: what it asks, what it answers and what it leaves in its stretch.
 -- Assumes nothing.
-use Rattle.std.specs.Prelude.{◌≡◌, true, List, [], ℕ, ◌+◌, ◌≤◌, ◌<◌, ltb, length, take, drop, replicate}
+use Rattle.std.specs.Prelude.{◌≡◌, Result, true, List, [], ℕ, ◌+◌, ◌≤◌, ◌<◌, ltb, length, take, drop, replicate}
 use Rattle.lists.specs.Lists.{pick, tab}
 use Rattle.run.specs.Run.{Out, gives, on_out}
 use Rattle.run.specs.Ways.{by_fold}
 use Rattle.shape.specs.Index.{at, size}
 use Rattle.shape.specs.Dims.{dims_of}
 use Rattle.elementwise.specs.Elementwise.{Tensor, Holds, step_numbers, out_numbers}
-use Rattle.elementwise.specs.declared.Step.{Step}
+use Rattle.elementwise.specs.declared.ZeroDivisor.{ZeroDivisor}
 use Rattle.ops.specs.declared.Kind.{Kind}
-use Rattle.ops.specs.declared.Kind.TheVariants.{Constant, Iota, Elementwise, Pairwise, Quotient, Compare, Convert, Select, Clamp, Moved, Pad, Concatenate, DynamicSlice, Reduce}
+use Rattle.ops.specs.declared.Kind.TheVariants.{Constant}
 use Rattle.ops.specs.Ops.{hlo, way_of}
 use Rattle.dense.specs.Dense.{dense_value}
 use Rattle.dimrules.specs.Types.{type_at}
 use Rattle.opcheck.specs.declared.Operation.{Operation}
 use Rattle.facts.specs.Facts.{node_for}
-use Rattle.doing.specs.declared.Class.{Class}
-use Rattle.doing.specs.declared.Class.TheVariants.{Read, Divided, Joined, ByTask}
 
 -- how many elements operand j has, as its type is written
 abbrev pub size_of : Operation → ℕ → ℕ
@@ -48,28 +46,11 @@ abbrev pub Readable : Kind → Operation → List ℕ → ℕ → Type 0
 Readable kind o text literal = kind ≡ Constant → (dense_value o.value.element (dims_of o.value.shape) text literal).ok ≡ true
 
 -- how the op with this number answers, and what it leaves where old stood: its tensor; "zero from the refusing op's first slot"
-pub record Done (number : ℕ) (m : Out Tensor ℕ) (r : Step) (old new : List ℕ) : Type 0 where
+pub record Done (number : ℕ) (m : Out Tensor ℕ) (r : Result (Unit {0}) ZeroDivisor) (old new : List ℕ) : Type 0 where
   pub answers : step_numbers r ≡ out_numbers number m
   pub leaves : new ≡ on_out m (λ v. v) (λ k. replicate (length old) 0)
 
 -- ---- its parts
-
--- a constant is read from the text, a quotient may meet a zero divisor, concatenate takes any number of operands; a task does the others
-abbrev pub class_of_kind : Kind → Class
-class_of_kind Constant = Read
-class_of_kind (Quotient op) = Divided op
-class_of_kind Concatenate = Joined
-class_of_kind Iota = ByTask
-class_of_kind (Elementwise op) = ByTask
-class_of_kind (Pairwise op) = ByTask
-class_of_kind (Compare d) = ByTask
-class_of_kind Convert = ByTask
-class_of_kind Select = ByTask
-class_of_kind Clamp = ByTask
-class_of_kind (Moved m) = ByTask
-class_of_kind Pad = ByTask
-class_of_kind DynamicSlice = ByTask
-class_of_kind (Reduce body) = ByTask
 
 -- operand j; past the last one there is nothing
 abbrev pub operand_in : Operation → List ℕ → List ℕ → ℕ → Tensor
@@ -84,5 +65,5 @@ abbrev pub Gives : Kind → Operation → List Tensor → Tensor → Type 0
 Gives kind o args v = (values : Tensor) → op_gives kind o values args ≡ gives v
 
 -- an op other than a constant answers r and leaves new where old stood
-abbrev pub Answers : ℕ → Kind → Operation → List Tensor → Step → List ℕ → List ℕ → Type 0
+abbrev pub Answers : ℕ → Kind → Operation → List Tensor → Result (Unit {0}) ZeroDivisor → List ℕ → List ℕ → Type 0
 Answers number kind o args r old new = (values : Tensor) → Done number (op_gives kind o values args) r old new

@@ -1,88 +1,40 @@
 // One op on operands that stand in a slice of slots: its stretch is filled, or left as zeros where a divisor is zero.
 #![tactic(auto)]
 
-ghost use Rattle.std.specs.Prelude.{◌≡◌, ◌<◌, length, replicate};
+ghost use Rattle.std.specs.Prelude.{◌≡◌, ◌<◌, length};
 ghost use Rattle.lists.specs.Lists.{tab};
 ghost use Rattle.shape.specs.Index.{at};
 ghost use Rattle.shape.specs.Dims.{Fills};
 ghost use Rattle.ops.specs.declared.Kind.TheVariants.{Constant, Quotient, Concatenate};
 ghost use Rattle.dimrules.specs.Types.{type_at};
 ghost use Rattle.facts.specs.Facts.{AcceptedAs, DoneByTask, Shaped, task_of};
-ghost use Rattle.doing.specs.Doing.{args_in, arguments_at, operand_in, start_in, class_of_kind, op_gives, OperandsPlaced, Readable, Done, Gives, Answers};
+ghost use Rattle.doing.specs.Doing.{args_in, arguments_at, operand_in, start_in, op_gives, OperandsPlaced, Readable, Done, Gives, Answers};
 
 use apply::Task;
 use dimrules::TensorType;
 use division::Division;
-use elementwise::Step;
+use elementwise::ZeroDivisor;
 use limits::Limits;
 use opcheck::Operation;
 use ops::Kind;
 use shape::Shape;
 
-// How an op is done: read from the text, divided up to a zero divisor, joined out of all slots, or by a task.
-#[derive(Clone, Copy)]
-pub enum Class {
-    Read,
-    Divided(Division),
-    Joined,
-    ByTask,
-}
-
-fn class_of(kind: Kind) -> Class
-    ensures { result ≡ class_of_kind kind }
-{
-    match kind {
-        Kind::Constant => Class::Read,
-        Kind::Iota => Class::ByTask,
-        Kind::Elementwise(_) => Class::ByTask,
-        Kind::Pairwise(_) => Class::ByTask,
-        Kind::Quotient(op) => Class::Divided(op),
-        Kind::Compare(_) => Class::ByTask,
-        Kind::Convert => Class::ByTask,
-        Kind::Select => Class::ByTask,
-        Kind::Clamp => Class::ByTask,
-        Kind::Moved(_) => Class::ByTask,
-        Kind::Pad => Class::ByTask,
-        Kind::Concatenate => Class::Joined,
-        Kind::DynamicSlice => Class::ByTask,
-        Kind::Reduce(_) => Class::ByTask,
-    }
-}
-
 // The op as `apply` takes it.
 fn task_of(kind: Kind, o: Operation) -> Task
     ensures { result ≡ task_of kind o }
 {
-    let types = o.types;
-    let x = types[0];
-    let y = types[1];
-    let z = types[2];
-    let result = o.result;
-    let a = o.a;
-    let b = o.b;
-    let c = o.c;
-    let element = result.element;
-    let source = x.element;
-    let index = y.element;
-    let from = x.shape;
-    let last = z.shape;
-    let to = result.shape;
-    let count = a.count;
-    let first = a.list;
-    let second = c.list;
-    let limit = b.list;
     Task {
         kind,
-        element,
-        source,
-        index,
-        from,
-        last,
-        to,
-        count,
-        first,
-        second,
-        limit,
+        element: o.result.element,
+        source: o.types[0].element,
+        index: o.types[1].element,
+        from: o.types[0].shape,
+        last: o.types[2].shape,
+        to: o.result.shape,
+        count: o.a.count,
+        first: o.a.list,
+        second: o.c.list,
+        limit: o.b.list,
     }
 }
 
@@ -90,7 +42,7 @@ fn task_of(kind: Kind, o: Operation) -> Task
 fn slot_at(slots: &[u64], p: usize) -> u64
     ensures { result ≡ at slots.now p }
 {
-    if p < slots.len() { slots[p] } else { 0 }
+    slots.get(p).copied().unwrap_or(0)
 }
 
 // The first slot of each operand from operand 1 on: dynamic_slice's starts.
@@ -108,13 +60,9 @@ fn starts_of(places: [usize; Limits::OPERANDS], slots: &[u64]) -> [u64; Limits::
 fn shapes_of(types: [TensorType; Limits::OPERANDS]) -> [Shape; Limits::OPERANDS]
     ensures { result ≡ tab 8 (λ j. (type_at types j).shape) }
 {
-    let x = types[0];
-    let s = x.shape;
-    let mut shapes = [s; Limits::OPERANDS];
+    let mut shapes = [types[0].shape; Limits::OPERANDS];
     for j in 0..Limits::OPERANDS {
-        let t = types[j];
-        let u = t.shape;
-        shapes[j] = u;
+        shapes[j] = types[j].shape;
     }
     shapes
 }
@@ -124,27 +72,11 @@ fn operand(o: Operation, places: [usize; Limits::OPERANDS], slots: &[u64], j: us
     requires { Shaped o × OperandsPlaced o places slots.now × (j < 8) }
     ensures { result.now ≡ operand_in o places slots.now j }
 {
-    let types = o.types;
     if j < o.arity {
-        let t = types[j];
-        let s = t.shape;
-        let n = shape::size_of(s);
         let from = places[j];
-        let to = from + n;
-        return &slots[from..to];
+        return &slots[from..from + shape::size_of(o.types[j].shape)];
     }
-    &slots[0..0]
-}
-
-// Zeros in every slot.
-pub fn zero_into(out: &mut [u64])
-    ensures { out.new ≡ replicate (length out.old) 0 }
-{
-    let mut i = 0;
-    while i < out.len() {
-        out[i] = 0;
-        i += 1;
-    }
+    &[]
 }
 
 // The elements of its dense value.
@@ -152,10 +84,7 @@ fn constant_op(text: &[u8], o: Operation, literal: usize, out: &mut [u64])
     requires { AcceptedAs Constant o × Readable Constant o text.now literal × Fills out.old o.result.shape }
     ensures { out.new ≡ arguments_at o text.now literal }
 {
-    let value = o.value;
-    let element = value.element;
-    let shape = value.shape;
-    dense::read_dense(text, literal, element, shape, out);
+    dense::read_dense(text, literal, o.value.element, o.value.shape, out);
 }
 
 // divide or remainder: element by element, and all zeros where a divisor is zero.
@@ -166,22 +95,17 @@ fn quotient_op(
     places: [usize; Limits::OPERANDS],
     slots: &[u64],
     out: &mut [u64],
-) -> Step
+) -> Result<(), ZeroDivisor>
     requires { AcceptedAs (Quotient op) o × OperandsPlaced o places slots.now × Fills out.old o.result.shape }
     ensures { Answers number (Quotient op) o (args_in o places slots.now) result out.old out.new }
 {
-    let result = o.result;
-    let element = result.element;
     let x = operand(o, places, slots, 0);
     let y = operand(o, places, slots, 1);
-    let s = elementwise::division_into(number, op, element, x, y, out);
-    match s {
-        Step::Filled => Step::Filled,
-        Step::Zero(k, z) => {
-            zero_into(out);
-            Step::Zero(k, z)
-        }
+    if let Err(z) = elementwise::division_into(number, op, o.result.element, x, y, out) {
+        out.fill(0);
+        return Err(z);
     }
+    Ok(())
 }
 
 // The operands one after the other along a dimension.
@@ -189,15 +113,18 @@ fn concatenate_op(o: Operation, places: [usize; Limits::OPERANDS], slots: &[u64]
     requires { AcceptedAs Concatenate o × OperandsPlaced o places slots.now × Fills out.old o.result.shape }
     ensures { Gives Concatenate o (args_in o places slots.now) out.new }
 {
-    let a = o.a;
-    let list = a.list;
-    let result = o.result;
-    let to = result.shape;
-    let types = o.types;
-    maps::concatenate(slots, list[0], shapes_of(types), places, o.arity, to, out)
+    maps::concatenate(
+        slots,
+        o.a.list[0],
+        shapes_of(o.types),
+        places,
+        o.arity,
+        o.result.shape,
+        out,
+    )
 }
 
-// An op of any other class.
+// An op of any other kind.
 fn task_op(
     kind: Kind,
     o: Operation,
@@ -224,24 +151,23 @@ pub fn do_op(
     places: [usize; Limits::OPERANDS],
     slots: &[u64],
     out: &mut [u64],
-) -> Step
+) -> Result<(), ZeroDivisor>
     requires { AcceptedAs kind o × OperandsPlaced o places slots.now × Readable kind o text.now literal × Fills out.old o.result.shape }
     ensures { Done number (op_gives kind o (arguments_at o text.now literal) (args_in o places slots.now)) result out.old out.new }
 {
-    let class = class_of(kind);
-    match class {
-        Class::Read => {
+    match kind {
+        Kind::Constant => {
             constant_op(text, o, literal, out);
-            Step::Filled
+            Ok(())
         }
-        Class::Divided(op) => quotient_op(number, op, o, places, slots, out),
-        Class::Joined => {
+        Kind::Quotient(op) => quotient_op(number, op, o, places, slots, out),
+        Kind::Concatenate => {
             concatenate_op(o, places, slots, out);
-            Step::Filled
+            Ok(())
         }
-        Class::ByTask => {
+        _ => {
             task_op(kind, o, places, slots, out);
-            Step::Filled
+            Ok(())
         }
     }
 }

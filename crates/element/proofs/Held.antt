@@ -16,8 +16,8 @@ use Rattle.element.proofs.Range.{low_value, high_value}
 
 -- the number that a slot holds, without its sign
 module _ (t : ElementType) {a : ℕ} where
-  pub magnitude-negative : lt_z (value_of t a) (pos 0) ≡ true → a < 2 ^ 64 → 18446744073709551615 - a + 1 ≡ nat_abs (value_of t a)
-  magnitude-negative e l = rw (value-negative t a e).0 (omega arith)
+  pub magnitude-negative : {r : ℕ} → lt_z (value_of t a) (pos 0) ≡ true → a < 2 ^ 64 → r < 2 ^ 64 → (r + a) % 2 ^ 64 ≡ 0 → r ≡ nat_abs (value_of t a)
+  magnitude-negative e l k m = let v : 2 ^ 63 ≤ a = (value-negative t a e).1 in rw (value-negative t a e).0 (omega arith)
 
   pub magnitude-plain : lt_z (value_of t a) (pos 0) ≡ false → a ≡ nat_abs (value_of t a)
   magnitude-plain e = rw (value-plain t a e)
@@ -35,14 +35,10 @@ module _ (t : ElementType) where
   unfolding slot_for
   slot-plus m h = sym (slot-pos m h)
 
-  pub slot-minus : (m : ℕ) → 0 < m → m < 2 ^ 64 → 18446744073709551615 - m + 1 ≡ slot_for t (neg_ℤ (pos m))
+  pub slot-minus : (m : ℕ) {r : ℕ} → m < 2 ^ 64 → r < 2 ^ 64 → (r + m) % 2 ^ 64 ≡ 0 → r ≡ slot_for t (neg_ℤ (pos m))
   unfolding slot_for
-  slot-minus zero g h = absurd (omega arith)
-  slot-minus (suc n) g h = let l : n < 2 ^ 64 = omega arith in rw (slot-negsuc n l) (omega arith)
-
-  pub slot-none : 0 ≡ slot_for t (neg_ℤ (pos 0))
-  unfolding slot_for
-  slot-none = refl
+  slot-minus zero h k e = omega arith
+  slot-minus (suc n) h k e = let l : n < 2 ^ 64 = omega arith in rw (slot-negsuc n l) (omega arith)
 
 -- the highest value of a type is below 2^64, of a signed one below 2^63
 

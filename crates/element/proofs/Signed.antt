@@ -1,16 +1,15 @@
 -- Slots and signed machine integers. Assumes nothing.
 use mathlib.Core.Path.{◌≡◌, refl, sym, ap, ◌∙◌}
 use mathlib.Core.Bool.{Bool, true, false, ◌&&◌}
-use Prim.Native.Nat.{ℕ, zero, suc, ◌-◌, ◌^◌, ◌≤◌, ◌<◌}
-use native.Mathlib.Nat.{mod-eq_of_lt, zero-add}
+use Prim.Native.Nat.{ℕ, suc, ◌-◌, ◌^◌, ◌≤◌, ◌<◌}
+use native.Mathlib.Nat.{mod-eq_of_lt}
 use native.Mathlib.Omega.{arith}
-use lib.IntN.{ℤ, pos, negsuc, nat_abs, ◌-ℤ◌, +ℤ_comm, -ℤ_one}
-use lib.Signed.{lt_z, non_neg}
-use lib.Dec.{T, leb, leb-suc-zero}
-use borrow.Author.Tests.{ltb-true, leb-true, le-leb, lt-leb}
+use lib.IntN.{ℤ, pos, negsuc}
+use lib.Signed.{lt_z}
+use lib.Dec.{ltb, leb, leb-suc-zero}
+use borrow.Author.Tests.{ltb-true, ltb-false, leb-true, leb-false, le-leb, lt-leb}
 use mir.Syntax.{w64}
-use mir.Val.{SFits, Fits, to_z, of_z}
-use mir.Facts.{to_z-of_z, to_z_pos}
+use mir.Val.{SFits, sel, to_z, of_z}
 use Rattle.lists.specs.Lists.{pick}
 use Rattle.element.specs.Types.{read, slot_of, value_of, signed_of}
 use Rattle.element.specs.declared.ElementType.{ElementType}
@@ -71,78 +70,28 @@ module _ (t : ElementType) (a : ℕ) where
       go true = refl
       go false = refl
 
--- from a slot to an i64
+-- from a slot to an i64, as `cast_signed` gives it
 
-pub minus-one-sub : (k : ℕ) → negsuc 0 -ℤ pos k ≡ negsuc k
-minus-one-sub zero = refl
-minus-one-sub (suc k) = ap (λ (x : ℕ). negsuc (suc x)) (zero-add k)
+pub signed-is : (s : ℕ) → to_z w64 s ≡ read true 64 s
+signed-is s = go (ltb s (2 ^ 63)) (leb (2 ^ 63) s) (ltb-true s (2 ^ 63)) (ltb-false s (2 ^ 63)) (leb-true (2 ^ 63) s) (leb-false (2 ^ 63) s)
+  where
+    go : (b d : Bool) → (b ≡ true → s < 2 ^ 63) → (b ≡ false → 2 ^ 63 ≤ s) → (d ≡ true → 2 ^ 63 ≤ s) → (d ≡ false → s < 2 ^ 63)
+        → sel b (pos s) (negsuc (2 ^ 64 - suc s)) ≡ pick d (negsuc (2 ^ 64 - suc s)) (pos s)
+    go true false l g m n = refl
+    go false true l g m n = refl
+    go true true l g m n = let x : s < 2 ^ 63 = l refl in let y : 2 ^ 63 ≤ s = m refl in absurd (omega arith)
+    go false false l g m n = let x : 2 ^ 63 ≤ s = g refl in let y : s < 2 ^ 63 = n refl in absurd (omega arith)
 
 module _ {s : ℕ} (h : s < 2 ^ 63) where
   pub read_low : read true 64 s ≡ pos s
   read_low = simp (lt-leb _ _ h)
 
-  pub signed_low : to_z w64 s ≡ read true 64 s
-  signed_low = to_z_pos w64 h ∙ sym read_low
-
 module _ {s : ℕ} (h : 2 ^ 63 ≤ s) (k : s < 2 ^ 64) where
   pub read-high : read true 64 s ≡ negsuc (18446744073709551615 - s)
   read-high = simp (le-leb _ _ h) (ap negsuc (omega arith))
 
-  difference : negsuc 0 -ℤ to_z w64 (18446744073709551615 - s) ≡ negsuc (18446744073709551615 - s)
-  difference = rw (to_z_pos w64 {n = 18446744073709551615 - s} (omega arith)) (minus-one-sub (18446744073709551615 - s))
+-- from an i64 to a slot, as `cast_unsigned` gives it
 
-  pub signed-high-fits : SFits w64 (negsuc 0 -ℤ to_z w64 (18446744073709551615 - s))
-  signed-high-fits = rw difference (record { sfits = omega arith })
-
-  pub signed_high : to_z w64 (of_z w64 (negsuc 0 -ℤ to_z w64 (18446744073709551615 - s))) ≡ read true 64 s
-  signed_high = to_z-of_z signed-high-fits ∙ difference ∙ sym read-high
-
--- from an i64 to a slot
-
--- x below 0, as the test finds it
-pub record Below (x : ℤ) : Type 0 where
-  pub k : ℕ
-  pub is : x ≡ negsuc k
-  pub small : k < 2 ^ 63
-
-pub below-zero : {x : ℤ} → SFits w64 x → lt_z (to_z w64 (of_z w64 x)) (pos 0) ≡ true → Below x
-below-zero {x} f e = go x f (rw (to_z-of_z f) at e)
-  where
-    go : (x : ℤ) → SFits w64 x → lt_z x (pos 0) ≡ true → Below x
-    go (pos n) f e = let l : n < 0 = ltb-true n 0 e in absurd (omega arith)
-    go (negsuc n) f e = record { k = n; is = refl; small = f.sfits }
-
-module _ {x : ℤ} {k : ℕ} (f : SFits w64 x) (i : x ≡ negsuc k) (l : k < 2 ^ 63) where
-  flipped : negsuc 0 -ℤ to_z w64 (of_z w64 x) ≡ pos k
-  flipped = rw (to_z-of_z f, i) (+ℤ_comm (negsuc 0) (pos (suc k)) ∙ -ℤ_one (pos (suc k)))
-
-  pub flip-fits : SFits w64 (negsuc 0 -ℤ to_z w64 (of_z w64 x))
-  flip-fits = rw flipped (record { sfits = l })
-
-  read_back : to_z w64 (of_z w64 (negsuc 0 -ℤ to_z w64 (of_z w64 x))) ≡ pos k
-  read_back = to_z-of_z flip-fits ∙ flipped
-
-  pub flip-cast : T (non_neg (to_z w64 (of_z w64 (negsuc 0 -ℤ to_z w64 (of_z w64 x))))) × Fits w64 (nat_abs (to_z w64 (of_z w64 (negsuc 0 -ℤ to_z w64 (of_z w64 x)))))
-  flip-cast = rw read_back (tt, record { fits = omega arith })
-
-  pub flip-le : nat_abs (to_z w64 (of_z w64 (negsuc 0 -ℤ to_z w64 (of_z w64 x)))) ≤ 18446744073709551615
-  flip-le = rw read_back (omega arith)
-
-  pub slot-below : 18446744073709551615 - nat_abs (to_z w64 (of_z w64 (negsuc 0 -ℤ to_z w64 (of_z w64 x)))) ≡ slot_of x
-  slot-below =
-      let m : k < 2 ^ 64 = omega arith in
-      rw (read_back, i, mod-eq_of_lt m) (omega arith)
-
-module _ {x : ℤ} (f : SFits w64 x) (e : lt_z (to_z w64 (of_z w64 x)) (pos 0) ≡ false) where
-  nonneg : T (non_neg x) × (nat_abs x < 2 ^ 63) × (nat_abs x ≡ slot_of x)
-  nonneg = go x f (rw (to_z-of_z f) at e)
-    where
-      go : (x : ℤ) → SFits w64 x → lt_z x (pos 0) ≡ false → T (non_neg x) × (nat_abs x < 2 ^ 63) × (nat_abs x ≡ slot_of x)
-      go (pos n) f e = let l : n < 2 ^ 64 = omega (arith, f.sfits) in (tt, f.sfits, sym (mod-eq_of_lt l))
-      go (negsuc n) f e = let z : ◌≡◌ {A = ℕ} 0 1 = cc in absurd (omega arith)
-
-  pub plain-cast : T (non_neg (to_z w64 (of_z w64 x))) × Fits w64 (nat_abs (to_z w64 (of_z w64 x)))
-  plain-cast = rw (to_z-of_z f) (nonneg.0, record { fits = omega (arith, nonneg.1) })
-
-  pub slot-plain : nat_abs (to_z w64 (of_z w64 x)) ≡ slot_of x
-  slot-plain = rw (to_z-of_z f) nonneg.2
+pub slot-is : {x : ℤ} → SFits w64 x → of_z w64 x ≡ slot_of x
+slot-is {x = pos n} f = let l : n < 2 ^ 64 = omega (arith, f.sfits) in sym (mod-eq_of_lt l)
+slot-is {x = negsuc n} f = let l : n < 2 ^ 64 = omega (arith, f.sfits) in rw (mod-eq_of_lt l)

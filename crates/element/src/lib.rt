@@ -7,7 +7,7 @@ ghost use Rattle.std.specs.Int.Signed.{lt_z};
 ghost use Rattle.element.specs.Types.{width_of, signed_of, bool_of, mask_of, lowest_of, highest_of, all_of, read, slot_of, slot_for, value_of, wrap_to, is_value};
 
 // 01, "Element types".
-#[derive(Clone, Copy)]
+#[derive(Clone, Copy, PartialEq, Eq)]
 pub enum ElementType {
     I1,
     I8,
@@ -27,47 +27,26 @@ impl ElementType {
     {
         match self {
             ElementType::I1 => 1,
-            ElementType::I8 => 8,
-            ElementType::I16 => 16,
-            ElementType::I32 => 32,
-            ElementType::I64 => 64,
-            ElementType::U8 => 8,
-            ElementType::U16 => 16,
-            ElementType::U32 => 32,
-            ElementType::U64 => 64,
+            ElementType::I8 | ElementType::U8 => 8,
+            ElementType::I16 | ElementType::U16 => 16,
+            ElementType::I32 | ElementType::U32 => 32,
+            ElementType::I64 | ElementType::U64 => 64,
         }
     }
 
     pub fn is_signed(self) -> bool
         ensures { result ≡ signed_of self }
     {
-        match self {
-            ElementType::I1 => false,
-            ElementType::I8 => true,
-            ElementType::I16 => true,
-            ElementType::I32 => true,
-            ElementType::I64 => true,
-            ElementType::U8 => false,
-            ElementType::U16 => false,
-            ElementType::U32 => false,
-            ElementType::U64 => false,
-        }
+        matches!(
+            self,
+            ElementType::I8 | ElementType::I16 | ElementType::I32 | ElementType::I64
+        )
     }
 
     pub fn is_bool(self) -> bool
         ensures { result ≡ bool_of self }
     {
-        match self {
-            ElementType::I1 => true,
-            ElementType::I8 => false,
-            ElementType::I16 => false,
-            ElementType::I32 => false,
-            ElementType::I64 => false,
-            ElementType::U8 => false,
-            ElementType::U16 => false,
-            ElementType::U32 => false,
-            ElementType::U64 => false,
-        }
+        self == ElementType::I1
     }
 
     // The lowest value, as a slot.
@@ -75,19 +54,16 @@ impl ElementType {
         ensures { result ≡ lowest_of self }
     {
         match self {
-            ElementType::I1 => 0,
             ElementType::I8 => 0xffff_ffff_ffff_ff80,
             ElementType::I16 => 0xffff_ffff_ffff_8000,
             ElementType::I32 => 0xffff_ffff_8000_0000,
             ElementType::I64 => 0x8000_0000_0000_0000,
-            ElementType::U8 => 0,
-            ElementType::U16 => 0,
-            ElementType::U32 => 0,
-            ElementType::U64 => 0,
+            _ => 0,
         }
     }
 
     // The highest value, as a slot.
+    // Kept: a table with one value for each type; the widths show no plainer.
     pub fn highest(self) -> u64
         ensures { result ≡ highest_of self }
     {
@@ -100,7 +76,7 @@ impl ElementType {
             ElementType::U8 => 0xff,
             ElementType::U16 => 0xffff,
             ElementType::U32 => 0xffff_ffff,
-            ElementType::U64 => 0xffff_ffff_ffff_ffff,
+            ElementType::U64 => u64::MAX,
         }
     }
 
@@ -108,17 +84,7 @@ impl ElementType {
     pub fn mask(self) -> u64
         ensures { result ≡ mask_of self }
     {
-        match self {
-            ElementType::I1 => 1,
-            ElementType::I8 => 0xff,
-            ElementType::I16 => 0xffff,
-            ElementType::I32 => 0xffff_ffff,
-            ElementType::I64 => 0xffff_ffff_ffff_ffff,
-            ElementType::U8 => 0xff,
-            ElementType::U16 => 0xffff,
-            ElementType::U32 => 0xffff_ffff,
-            ElementType::U64 => 0xffff_ffff_ffff_ffff,
-        }
+        u64::MAX >> (64 - self.width())
     }
 
     // The value with all bits set, as a slot.
@@ -126,9 +92,10 @@ impl ElementType {
         ensures { result ≡ all_of self }
     {
         if self.is_signed() {
-            return u64::MAX;
+            u64::MAX
+        } else {
+            self.mask()
         }
-        self.mask()
     }
 }
 
@@ -138,35 +105,25 @@ pub fn fit(t: ElementType, x: u64) -> u64
 {
     let mask = t.mask();
     let low = x & mask;
-    if t.is_signed() {
-        if mask / 2 < low {
-            return low + (u64::MAX - mask);
-        }
+    if t.is_signed() && mask / 2 < low {
+        low + !mask
+    } else {
+        low
     }
-    low
 }
 
 // Whether a slot holds a value of the type (refusal 11).
 pub fn is_value(t: ElementType, s: u64) -> bool
     ensures { result ≡ is_value t s }
 {
-    if s <= t.highest() {
-        return true;
-    }
-    if t.is_signed() {
-        return t.lowest() <= s;
-    }
-    false
+    s <= t.highest() || t.is_signed() && t.lowest() <= s
 }
 
 // Whether a slot holds a value below 0.
 pub fn is_negative(t: ElementType, a: u64) -> bool
     ensures { result ≡ lt_z (value_of t a) (pos 0) }
 {
-    if t.is_signed() {
-        return 0x8000_0000_0000_0000 <= a;
-    }
-    false
+    t.is_signed() && 0x8000_0000_0000_0000 <= a
 }
 
 // The number that a slot holds, without its sign.
@@ -174,42 +131,15 @@ pub fn magnitude(t: ElementType, s: u64) -> u64
     ensures { result ≡ nat_abs (value_of t s) }
 {
     if is_negative(t, s) {
-        return u64::MAX - s + 1;
+        s.wrapping_neg()
+    } else {
+        s
     }
-    s
 }
 
 // The slot that holds the number m or -m, a value of the type.
 pub fn slot_for(t: ElementType, negative: bool, m: u64) -> u64
     ensures { result ≡ slot_for t (pick negative (neg_ℤ (pos m)) (pos m)) }
 {
-    if negative {
-        if m == 0 {
-            return 0;
-        }
-        return u64::MAX - m + 1;
-    }
-    m
-}
-
-// The number that a slot of a signed type holds.
-pub fn signed_of(s: u64) -> i64
-    ensures { result ≡ read true 64 s }
-{
-    if s < 0x8000_0000_0000_0000 {
-        s as i64
-    } else {
-        -1 - ((u64::MAX - s) as i64)
-    }
-}
-
-// The slot of a signed number.
-pub fn slot_of(x: i64) -> u64
-    ensures { result ≡ slot_of x }
-{
-    if x < 0 {
-        u64::MAX - ((-1 - x) as u64)
-    } else {
-        x as u64
-    }
+    if negative { m.wrapping_neg() } else { m }
 }

@@ -5,6 +5,8 @@
 mod choices;
 mod unaries;
 
+use division::Division;
+
 fn run_unaries(rt: &impl Print) {
     unaries::abs_examples(rt);
     unaries::sign_examples(rt);
@@ -22,8 +24,8 @@ fn run_choices(rt: &impl Print) {
 }
 
 fn run_quotients(rt: &impl Print) {
-    quotient_examples::divide_examples(rt);
-    quotient_examples::remainder_examples(rt);
+    quotient_examples::division_examples(rt, b"divide", Division::Divide);
+    quotient_examples::division_examples(rt, b"remainder", Division::Remainder);
 }
 
 fn main(rt: HostRuntime) {

@@ -8,6 +8,7 @@ use native.Mathlib.Omega.{arith}
 use lib.Dec.{eqb}
 use lib.ListN.{length, get_or}
 use borrow.Author.Tests.{lt-ltb, le-ltb, eqb-true}
+use Rattle.std.specs.Prelude.{Ok, Err}
 use Rattle.lists.specs.Lists.{pick, first_where}
 use Rattle.lists.proofs.SearchLaw.{Passed, passed_here, passed-end}
 use Rattle.lists.proofs.AllLaw.{all-get}
@@ -15,7 +16,6 @@ use Rattle.element.specs.Types.{SlotHolds}
 use Rattle.element.specs.declared.ElementType.{ElementType}
 use Rattle.division.specs.declared.Division.{Division}
 use Rattle.elementwise.specs.Elementwise.{Tensor, Holds, is_zero, operand_at, zero_divisor, division_at, Divides}
-use Rattle.elementwise.specs.declared.Step.TheVariants.{Filled, Zero}
 use Rattle.elementwise.proofs.FillLaw.{Done, done_all}
 
 pub value-at : {t : ElementType} {n : ℕ} {x : Tensor} → Holds t n x → (k : ℕ) → k < n → SlotHolds t (get_or x k 0)
@@ -39,12 +39,12 @@ module _ (x y : Tensor) (k j v : ℕ) (read : v ≡ operand_at x y k j) where
 
 -- the walk's two ends
 module _ {number : ℕ} {op : Division} {t : ElementType} {x y : Tensor} {old new : List ℕ} (same : length y ≡ length old) where
-  pub zero-at : (k : ℕ) → k < length old → is_zero (get_or y k 0) ≡ true → Passed is_zero y k → Done (division_at op t x y) old k new → Divides number op t x y (Zero number k) old new
+  pub zero-at : (k : ℕ) → k < length old → is_zero (get_or y k 0) ≡ true → Passed is_zero y k → Done (division_at op t x y) old k new → Divides number op t x y (Err (record { op = number; element = k })) old new
   zero-at k h z p d =
       let e : k ≡ first_where is_zero y = passed_here is_zero y k (omega arith) z p in
       record { answers = rw (← e, lt-ltb k (length old) h); leaves = rw (← e, lt-ltb k (length old) h) d.filled }
 
-  pub zero-nowhere : {k : ℕ} → length old ≤ k → Passed is_zero y k → Done (division_at op t x y) old k new → Divides number op t x y Filled old new
+  pub zero-nowhere : {k : ℕ} → length old ≤ k → Passed is_zero y k → Done (division_at op t x y) old k new → Divides number op t x y (Ok tt) old new
   zero-nowhere {k} h p d =
       let e : k ≡ first_where is_zero y = passed-end is_zero y k (omega arith) p in
       let past = le-ltb (first_where is_zero y) (length old) (omega arith) in

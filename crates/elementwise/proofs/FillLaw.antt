@@ -20,15 +20,18 @@ module _ {f : ℕ → ℕ} {l₀ : List ℕ} where
   pub done_none : Done f l₀ 0 l₀
   done_none = record { within = omega arith; size = refl; filled = refl }
 
-  pub done_next : {k : ℕ} {l : List ℕ} (v : ℕ) → k < length l → v ≡ f k → Done f l₀ k l → Done f l₀ (k + 1) (set l k v)
-  done_next {k} {l} v h e d =
+  pub done_below : {k : ℕ} {l : List ℕ} (v : ℕ) → k < length l₀ → v ≡ f k → Done f l₀ k l → Done f l₀ (k + 1) (set l k v)
+  done_below {k} {l} v h e d =
       let q : set l k v ≡ tab (k + 1) f ++ drop (k + 1) l₀ =
-      ap (λ (x : List ℕ). set x k v) d.filled ∙ fill_step k f l₀ v (omega (arith, d.size)) e in
+      ap (λ (x : List ℕ). set x k v) d.filled ∙ fill_step k f l₀ v h e in
       record {
         within = omega (arith, d.size);
         size = ap (λ (x : List ℕ). length x) q ∙ length-fill (k + 1) f l₀ (omega (arith, d.size));
         filled = q;
       }
+
+  pub done_next : {k : ℕ} {l : List ℕ} (v : ℕ) → k < length l → v ≡ f k → Done f l₀ k l → Done f l₀ (k + 1) (set l k v)
+  done_next v h e d = done_below v (omega (arith, d.size)) e d
 
   pub done_all : {k : ℕ} {l : List ℕ} → length l ≤ k → Done f l₀ k l → l ≡ tab (length l₀) f
   done_all {k} {l} h d =

@@ -1,6 +1,6 @@
 -- Whole tensors element by element (01, "Element by element"). A tensor is the list of its slots in canonical order.
 -- Assumes nothing.
-use Rattle.std.specs.Prelude.{◌≡◌, Bool, false, List, ◌++◌, ℕ, eqb, ltb, length, get_or, drop}
+use Rattle.std.specs.Prelude.{◌≡◌, Result, Ok, Err, Bool, false, List, ◌++◌, ℕ, eqb, ltb, length, get_or, drop}
 use Rattle.lists.specs.Lists.{pick, tab, All, first_where}
 use Rattle.run.specs.Run.{Out, gives, stops, on_out}
 use Rattle.element.specs.Types.{SlotHolds}
@@ -11,8 +11,7 @@ use Rattle.scalar.specs.Ops.{unary_of, binary_of, compare_of, select_of, clamp_o
 use Rattle.scalar.specs.declared.Unary.{Unary}
 use Rattle.scalar.specs.declared.Binary.{Binary}
 use Rattle.scalar.specs.declared.Direction.{Direction}
-use Rattle.elementwise.specs.declared.Step.{Step}
-use Rattle.elementwise.specs.declared.Step.TheVariants.{Filled, Zero}
+use Rattle.elementwise.specs.declared.ZeroDivisor.{ZeroDivisor}
 
 abbrev pub Tensor : Type 0
 Tensor = List ℕ
@@ -87,9 +86,9 @@ abbrev pub divided : Division → ElementType → ℕ → Tensor → Tensor → 
 divided op t n x y = pick (ltb (first_where is_zero y) n) (stops (first_where is_zero y)) (gives (tab n (division_at op t x y)))
 
 -- "An answer has three numbers: refusal, A, B"; "12 | zero divisor | op | element"
-abbrev pub step_numbers : Step → ℕ × ℕ × ℕ
-step_numbers Filled = (0, 0, 0)
-step_numbers (Zero op element) = (12, op, element)
+abbrev pub step_numbers : Result (Unit {0}) ZeroDivisor → ℕ × ℕ × ℕ
+step_numbers (Ok u) = (0, 0, 0)
+step_numbers (Err z) = (12, z.op, z.element)
 
 -- the numbers of the op with this number, by what it gives
 abbrev pub out_numbers : ℕ → Out Tensor ℕ → ℕ × ℕ × ℕ
@@ -101,6 +100,6 @@ abbrev pub left_by : Division → ElementType → Tensor → Tensor → List ℕ
 left_by op t x y old = on_out (divided op t (length old) x y) (λ v. v) (λ k. tab k (division_at op t x y) ++ drop k old)
 
 -- what a division answers, and what it leaves where old stood
-pub record Divides (number : ℕ) (op : Division) (t : ElementType) (x y : Tensor) (r : Step) (old new : List ℕ) : Type 0 where
+pub record Divides (number : ℕ) (op : Division) (t : ElementType) (x y : Tensor) (r : Result (Unit {0}) ZeroDivisor) (old new : List ℕ) : Type 0 where
   pub answers : step_numbers r ≡ out_numbers number (divided op t (length old) x y)
   pub leaves : new ≡ left_by op t x y old

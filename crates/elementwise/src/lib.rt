@@ -7,25 +7,23 @@ ghost use Rattle.element.specs.Types.{SlotHolds};
 ghost use Rattle.division.specs.Division.{division_of};
 ghost use Rattle.elementwise.specs.Elementwise.{Holds, TwoSized, SelectSized, ClampSized, spread, unary_at, binary_at, compare_at, convert_at, select_at, clamp_at, operand_at, zero_divisor, division_at, Divides};
 
-use division::{Divided, Division};
+use division::Division;
 use element::ElementType;
 use scalar::{Binary, Direction, Unary};
 
-// What an op answers: its stretch is filled, or the op and its first element whose divisor is zero (01's numbers: `numbersOf`).
+// The op and its first element whose divisor is zero.
 #[derive(Clone, Copy)]
-pub enum Step {
-    Filled,
-    Zero(usize, usize),
+pub struct ZeroDivisor {
+    pub op: usize,
+    pub element: usize,
 }
 
 pub fn unary_into(op: Unary, t: ElementType, x: &[u64], out: &mut [u64])
     requires { length x.now ≡ length out.old }
     ensures { out.new ≡ tab (length out.old) (unary_at op t x.now) }
 {
-    let mut i = 0;
-    while i < out.len() {
-        out[i] = scalar::apply_unary(op, t, x[i]);
-        i += 1;
+    for k in 0..out.len() {
+        out[k] = scalar::apply_unary(op, t, x[k]);
     }
 }
 
@@ -33,10 +31,8 @@ pub fn binary_into(op: Binary, t: ElementType, x: &[u64], y: &[u64], out: &mut [
     requires { TwoSized (length out.old) x.now y.now }
     ensures { out.new ≡ tab (length out.old) (binary_at op t x.now y.now) }
 {
-    let mut k = 0;
-    while k < out.len() {
+    for k in 0..out.len() {
         out[k] = scalar::apply_binary(op, t, x[k], y[k]);
-        k += 1;
     }
 }
 
@@ -45,10 +41,8 @@ pub fn compare_into(d: Direction, t: ElementType, x: &[u64], y: &[u64], out: &mu
     requires { TwoSized (length out.old) x.now y.now }
     ensures { out.new ≡ tab (length out.old) (compare_at d t x.now y.now) }
 {
-    let mut k = 0;
-    while k < out.len() {
+    for k in 0..out.len() {
         out[k] = scalar::compare(d, t, x[k], y[k]);
-        k += 1;
     }
 }
 
@@ -56,18 +50,9 @@ pub fn convert_into(from: ElementType, to: ElementType, x: &[u64], out: &mut [u6
     requires { length x.now ≡ length out.old }
     ensures { out.new ≡ tab (length out.old) (convert_at from to x.now) }
 {
-    let mut k = 0;
-    while k < out.len() {
+    for k in 0..out.len() {
         out[k] = scalar::convert(from, to, x[k]);
-        k += 1;
     }
-}
-
-// The place in an operand of rank 0 (single) or of the result's shape.
-fn spread_place(single: bool, k: usize) -> usize
-    ensures { result ≡ pick single 0 k }
-{
-    if single { 0 } else { k }
 }
 
 // Element k of an operand of the result's shape, or the one element of an operand of rank 0.
@@ -75,19 +60,16 @@ fn spread_element(single: bool, x: &[u64], k: usize) -> u64
     requires { pick single 0 k < length x.now }
     ensures { result ≡ spread single x.now k }
 {
-    let p = spread_place(single, k);
-    x[p]
+    if single { x[0] } else { x[k] }
 }
 
 pub fn select_into(single: bool, pred: &[u64], x: &[u64], y: &[u64], out: &mut [u64])
     requires { SelectSized single (length out.old) pred.now x.now y.now }
     ensures { out.new ≡ tab (length out.old) (select_at single pred.now x.now y.now) }
 {
-    let mut k = 0;
-    while k < out.len() {
+    for k in 0..out.len() {
         let p = spread_element(single, pred, k);
         out[k] = scalar::select(p, x[k], y[k]);
-        k += 1;
     }
 }
 
@@ -103,12 +85,10 @@ pub fn clamp_into(
     requires { ClampSized one other (length out.old) min.now x.now max.now }
     ensures { out.new ≡ tab (length out.old) (clamp_at t one other min.now x.now max.now) }
 {
-    let mut k = 0;
-    while k < out.len() {
+    for k in 0..out.len() {
         let low = spread_element(one, min, k);
         let high = spread_element(other, max, k);
         out[k] = scalar::clamp(t, low, x[k], high);
-        k += 1;
     }
 }
 
@@ -124,7 +104,7 @@ fn operand_at(x: &[u64], y: &[u64], k: usize, j: usize) -> u64
 fn is_zero_divisor(j: usize, v: u64) -> bool
     ensures { result ≡ zero_divisor j v }
 {
-    if j == 0 { false } else { v == 0 }
+    j != 0 && v == 0
 }
 
 // The slot of a quotient or a remainder.
@@ -132,13 +112,10 @@ fn divide_slots(op: Division, t: ElementType, a: u64, b: u64) -> u64
     requires { SlotHolds t a × SlotHolds t b }
     ensures { result ≡ (division_of op t a b).1 }
 {
-    let d = division::apply_division(op, t, a, b);
-    match d {
-        Divided::Value(v) => v,
-        Divided::ByZero => 0,
-    }
+    division::apply_division(op, t, a, b).unwrap_or(0)
 }
 
+// Kept: the nested walk of elements and operands, left by its label, is a rule of the project.
 // Each element's operands in turn; a zero divisor ends the walk, which yields the op's number and the element.
 pub fn division_into(
     number: usize,
@@ -147,25 +124,25 @@ pub fn division_into(
     x: &[u64],
     y: &[u64],
     out: &mut [u64],
-) -> Step
+) -> Result<(), ZeroDivisor>
     requires { Holds t (length out.old) x.now × Holds t (length out.old) y.now }
     ensures { Divides number op t x.now y.now result out.old out.new }
 {
-    let n = out.len();
-    let mut k = 0;
-    'walk: loop {
-        if n <= k {
-            break 'walk Step::Filled;
-        }
+    let mut answer = Ok(());
+    'walk: for k in 0..out.len() {
         let mut pair = [0u64; 2];
         for j in 0..2 {
             let v = operand_at(x, y, k, j);
             if is_zero_divisor(j, v) {
-                break 'walk Step::Zero(number, k);
+                answer = Err(ZeroDivisor {
+                    op: number,
+                    element: k,
+                });
+                break 'walk;
             }
             pair[j] = v;
         }
         out[k] = divide_slots(op, t, pair[0], pair[1]);
-        k += 1;
     }
+    answer
 }

@@ -5,6 +5,7 @@ ghost use Rattle.std.specs.Prelude.{◌≡◌, ◌≤◌, length};
 ghost use Rattle.program.specs.Program.{program_of};
 ghost use Rattle.values.specs.Values.{values_of};
 ghost use Rattle.offsets.specs.Offsets.{needed_of};
+ghost use Rattle.judge.specs.Refusals.{numbers_of};
 ghost use Rattle.verify.specs.Verify.{verdict};
 ghost use Rattle.inputs.specs.Inputs.{input_slots, first_foreign};
 ghost use Rattle.evaluation.specs.Evaluated.{ran, fitted, evaluated, answer};
@@ -13,9 +14,8 @@ ghost use Rattle.evaluation.specs.State.{copied};
 ghost use Rattle.answers.specs.Answered.{answer_of};
 ghost use Rattle.answers.specs.FreeRuns.{FreeOfOrder};
 
-use constants::constant_into;
 use inputs::{first_foreign, input_slots};
-use judge::Refusal;
+use judge::Refused;
 use limits::Limits;
 use offsets::{needed_of, offsets_of};
 use program::{Program, program_of};
@@ -28,8 +28,7 @@ fn copy_front(x: &[u64], out: &mut [u64])
     requires { length x.now ≤ length out.old }
     ensures { out.new ≡ copied x.now out.old }
 {
-    let n = x.len();
-    constant_into(x, &mut out[0..n]);
+    out[..x.len()].copy_from_slice(x);
 }
 
 // The inputs are copied to the store and to `done`, then the ops are done.
@@ -41,11 +40,11 @@ fn run_over(
     inputs: &[u64],
     done: &mut [u64],
     store: &mut [u64],
-) -> Refusal
+) -> Result<(), Refused>
     requires text_value { ((verdict text.now).number ≡ 0) × (p ≡ program_of text.now) × (vs ≡ values_of text.now) × (needed ≡ needed_of vs) }
     requires inputs_len { (length inputs.now ≡ input_slots vs) × (first_foreign vs inputs.now ≡ input_slots vs) }
     requires done_len { (length done.old ≡ 8192) × (needed ≤ length store.old) }
-    ensures { answer result store.new ≡ ran text.now inputs.now store.old }
+    ensures { answer (numbers_of result) store.new ≡ ran text.now inputs.now store.old }
 {
     let starts = offsets_of(vs);
     copy_front(inputs, done);
@@ -61,67 +60,56 @@ fn run_program(
     needed: usize,
     inputs: &[u64],
     store: &mut [u64],
-) -> Refusal
+) -> Result<(), Refused>
     requires text_value { ((verdict text.now).number ≡ 0) × (p ≡ program_of text.now) × (vs ≡ values_of text.now) × (needed ≡ needed_of vs) }
     requires inputs_len { (length inputs.now ≡ input_slots vs) × (first_foreign vs inputs.now ≡ input_slots vs) × (needed ≤ length store.old) }
-    ensures { answer result store.new ≡ ran text.now inputs.now store.old }
+    ensures { answer (numbers_of result) store.new ≡ ran text.now inputs.now store.old }
 {
     let mut done = [0u64; Limits::ELEMENTS];
     run_over(text, p, vs, needed, inputs, &mut done, store)
 }
 
 // Refusals 9 to 12 of an accepted text.
-fn run_fitted(text: &[u8], p: Program, vs: Values, inputs: &[u64], store: &mut [u64]) -> Refusal
+fn run_fitted(
+    text: &[u8],
+    p: Program,
+    vs: Values,
+    inputs: &[u64],
+    store: &mut [u64],
+) -> Result<(), Refused>
     requires { ((verdict text.now).number ≡ 0) × (p ≡ program_of text.now) × (vs ≡ values_of text.now) }
-    ensures { answer result store.new ≡ fitted text.now inputs.now store.old }
+    ensures { answer (numbers_of result) store.new ≡ fitted text.now inputs.now store.old }
 {
     let needed = needed_of(vs);
     if store.len() < needed {
-        return Refusal {
-            number: 9,
-            a: needed,
-            b: 0,
-        };
+        return Err(Refused::StoreShort(needed));
     }
     let slots = input_slots(vs);
     if inputs.len() != slots {
-        return Refusal {
-            number: 10,
-            a: slots,
-            b: 0,
-        };
+        return Err(Refused::InputCount(slots));
     }
-    let s = first_foreign(vs, inputs);
-    if s < slots {
-        return Refusal {
-            number: 11,
-            a: s,
-            b: 0,
-        };
+    if let Some(s) = first_foreign(vs, inputs) {
+        return Err(Refused::ForeignInput(s));
     }
     run_program(text, p, vs, needed, inputs, store)
 }
 
 // Refusals 0 to 12.
-fn run_text(text: &[u8], inputs: &[u64], store: &mut [u64]) -> Refusal
-    ensures { answer result store.new ≡ evaluated text.now inputs.now store.old }
+fn run_text(text: &[u8], inputs: &[u64], store: &mut [u64]) -> Result<(), Refused>
+    ensures { answer (numbers_of result) store.new ≡ evaluated text.now inputs.now store.old }
 {
-    let r = check(text);
-    if r.number != 0 {
-        return r;
-    }
+    check(text)?;
     let p = program_of(text);
-    let vs = values_in(text, p);
-    run_fitted(text, p, vs, inputs, store)
+    run_fitted(text, p, values_in(text, p), inputs, store)
 }
 
 // The bench: the refusal of a text on its inputs, A and B. The store afterwards follows from the text, the inputs and what it held; and the answer owes
 // nothing to the order of work. Each is said twice: over the program as the code reads it, and, in the words of 01, as it is written.
-pub fn evaluate(text: &[u8], inputs: &[u64], store: &mut [u64]) -> Refusal
-    ensures store_after { answer result store.new ≡ evaluated text.now inputs.now store.old }
-    ensures order_free_answer { OrderFreeAnswer text.now inputs.now result.number store.new }
-    ensures store_after_2 { answer result store.new ≡ answer_of text.now inputs.now store.old }
-    ensures free_of_order { FreeOfOrder text.now inputs.now result.number store.new }
+pub fn evaluate(text: &[u8], inputs: &[u64], store: &mut [u64]) -> Result<(), Refused>
+    ensures store_after { answer (numbers_of result) store.new ≡ evaluated text.now inputs.now store.old }
+    ensures order_free_answer { OrderFreeAnswer text.now inputs.now (numbers_of result).number store.new }
+    ensures store_after_2 { answer (numbers_of result) store.new ≡ answer_of text.now inputs.now store.old }
+    ensures free_of_order { FreeOfOrder text.now inputs.now (numbers_of result).number store.new }
 {
     run_text(text, inputs, store)
 }

@@ -13,12 +13,10 @@ use streams::{no_arguments, read_text, write_text};
 fn run(rt: &HostRuntime, text: &mut [u8], out: &mut [u8])
     requires { (length text.old ≡ 65537) × (1600008 ≤ length out.old) }
 {
-    let t = read_text(rt, &mut rt.stdin(), text);
-    if t.failed {
+    let Some(t) = read_text(rt, &mut rt.stdin(), text) else {
         return;
-    }
-    let n = t.len;
-    let r = print_output(&text[..n], t.more, out);
+    };
+    let r = print_output(&text[..t.len], t.more, out);
     write_text(rt, &mut rt.stdout(), &out[..r]);
 }
 

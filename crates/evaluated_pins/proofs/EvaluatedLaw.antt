@@ -10,7 +10,7 @@ use Rattle.scalar.specs.Ops.{add_of, not_of}
 use Rattle.run.specs.Tree.{count_from}
 use Rattle.scan.specs.Ascii.{ascii}
 use Rattle.optable.specs.Table.{said_at}
-use Rattle.judge.specs.declared.Refusal.{Refusal}
+use Rattle.judge.specs.Refusals.{Refusal}
 use Rattle.judge.specs.Judge.{refuse}
 use Rattle.values.specs.Values.{values_of}
 use Rattle.offsets.specs.Offsets.{size_at, offset_at, needed_of}

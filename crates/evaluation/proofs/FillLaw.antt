@@ -8,8 +8,8 @@ use lib.ListN.{length, take, drop, replicate, length-drop}
 use lib.Seq.{length-take-le, take_at, drop_at}
 use borrow.Rule.Slice.PartMut.{put_mid, post_of, Post-is}
 use Rattle.run.specs.Run.{Out, gives, stops}
-use Rattle.elementwise.specs.declared.Step.{Step}
-use Rattle.elementwise.specs.declared.Step.TheVariants.{Filled, Zero}
+use Rattle.std.specs.Prelude.{Result, Ok, Err}
+use Rattle.elementwise.specs.declared.ZeroDivisor.{ZeroDivisor}
 use Rattle.elementwise.specs.Elementwise.{Tensor, step_numbers}
 use Rattle.values.specs.declared.Values.{Values}
 use Rattle.offsets.specs.Offsets.{size_at, offset_at, needed_of}
@@ -31,7 +31,7 @@ stretch-of vs n at size room space e f l r s m =
     let w = within vs n l in
     record { start = e; stop = offset-turn vs n at size e f; inside = omega arith; within = omega arith; small = omega arith }
 
-pub written_as : {number : ℕ} {m : Out Tensor ℕ} {at at2 end end2 : ℕ} {r : Step} {done done2 store store2 : List ℕ} → at ≡ at2 → end ≡ end2
+pub written_as : {number : ℕ} {m : Out Tensor ℕ} {at at2 end end2 : ℕ} {r : Result (Unit {0}) ZeroDivisor} {done done2 store store2 : List ℕ} → at ≡ at2 → end ≡ end2
     → Written number m at end r done done2 store store2 → Written number m at2 end2 r done done2 store store2
 written_as {number} {m} {at} {at2} {end} {end2} {r} {done} {done2} {store} {store2} e f w =
     subst (λ (a : ℕ). Written number m a end2 r done done2 store store2) e (subst (λ (b : ℕ). Written number m at b r done done2 store store2) f w)
@@ -42,9 +42,9 @@ module _ (at end : ℕ) (store : List ℕ) (h : at ≤ end) (l : end ≤ length 
   lent_length = length-take-le (end - at) (drop at store) (omega (arith, length-drop at store))
 
   module _ {number : ℕ} (done : List ℕ) where
-    pub filled : (m : Out Tensor ℕ) (r : Step) (ys zs : List ℕ) → ((v : Tensor) → m ≡ gives v → length v ≡ end - at)
-        → Done number m r (take (end - at) (drop at store)) ys → r ≡ Filled → zs ≡ take (end - at) (drop at (put_mid at (end - at) store ys))
-        → Written number m at end Filled done (put_mid at (end - at) done zs) store (put_mid at (end - at) store ys)
+    pub filled : (m : Out Tensor ℕ) (r : Result (Unit {0}) ZeroDivisor) (ys zs : List ℕ) → ((v : Tensor) → m ≡ gives v → length v ≡ end - at)
+        → Done number m r (take (end - at) (drop at store)) ys → r ≡ Ok tt → zs ≡ take (end - at) (drop at (put_mid at (end - at) store ys))
+        → Written number m at end (Ok tt) done (put_mid at (end - at) done zs) store (put_mid at (end - at) store ys)
     filled (stops k) r ys zs long d f q =
         let o : ◌≡◌ {A = ℕ} 0 12 = ap (λ n. n.0) (ap step_numbers (sym f) ∙ d.answers) in
         absurd (omega arith)
@@ -58,12 +58,12 @@ module _ (at end : ℕ) (store : List ℕ) (h : at ≤ end) (l : end ≤ length 
           store_is = rw (d.leaves, Post-is at end store h);
         }
 
-    pub unfilled : (m : Out Tensor ℕ) (k z : ℕ) (r : Step) (ys : List ℕ) → Done number m r (take (end - at) (drop at store)) ys → r ≡ Zero k z
-        → Written number m at end (Zero k z) done done store (put_mid at (end - at) store ys)
-    unfilled (gives v) k z r ys d f =
+    pub unfilled : (m : Out Tensor ℕ) (z : ZeroDivisor) (r : Result (Unit {0}) ZeroDivisor) (ys : List ℕ) → Done number m r (take (end - at) (drop at store)) ys → r ≡ Err z
+        → Written number m at end (Err z) done done store (put_mid at (end - at) store ys)
+    unfilled (gives v) z r ys d f =
         let o : ◌≡◌ {A = ℕ} 12 0 = ap (λ n. n.0) (ap step_numbers (sym f) ∙ d.answers) in
         absurd (omega arith)
-    unfilled (stops w) k z r ys d f =
+    unfilled (stops w) z r ys d f =
         record {
           answers = ap step_numbers (sym f) ∙ d.answers;
           done-is = refl;

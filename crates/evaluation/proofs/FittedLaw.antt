@@ -13,14 +13,8 @@ use Rattle.program.specs.Program.{program_of}
 use Rattle.values.specs.Values.{values_in, values_of}
 use Rattle.offsets.specs.Offsets.{needed_of}
 use Rattle.verify.specs.Verify.{verdict}
-use Rattle.inputs.specs.Inputs.{input_slots, slot_fits, first_foreign}
-use Rattle.inputs.proofs.InputsLaw.{failing-le}
+use Rattle.inputs.specs.Inputs.{input_slots, first_foreign}
 use Rattle.evaluation.specs.Evaluated.{answer, ran, fitted, evaluated}
-
--- where no slot is found before the last, none is foreign
-pub none-foreign : (vs : Values) (inputs : List ℕ) → input_slots vs ≤ first_foreign vs inputs → first_foreign vs inputs ≡ input_slots vs
-unfolding first_foreign
-none-foreign vs inputs h = omega (arith, failing-le (input_slots vs) (slot_fits vs inputs))
 
 module _ (text inputs old : List ℕ) (vs : Values) (e : vs ≡ values_of text) where
   pub refuses-9 : length old < needed_of vs → answer (refuse 9 (needed_of vs) 0) old ≡ fitted text inputs old

@@ -18,7 +18,7 @@ use Rattle.run.specs.Ways.{language_of, free_run}
 use Rattle.elementwise.specs.Elementwise.{Tensor}
 use Rattle.ops.specs.Ops.{Node, hlo}
 use Rattle.ops.specs.Typed.{HoldAll}
-use Rattle.judge.specs.declared.Refusal.{Refusal}
+use Rattle.judge.specs.Refusals.{Refusal}
 use Rattle.judge.specs.Judge.{refuse}
 use Rattle.program.specs.Program.{program_of}
 use Rattle.values.specs.declared.Values.{Values}

@@ -7,10 +7,10 @@ use native.Mathlib.Omega.{arith}
 use lib.ListN.{length, take, drop, replicate, length-replicate, length-append, length-drop}
 use lib.Seq.{length-take-le, take_at}
 use Rattle.run.specs.Run.{Out, gives, stops, on_out}
-use Rattle.elementwise.specs.declared.Step.{Step}
-use Rattle.elementwise.specs.declared.Step.TheVariants.{Filled, Zero}
+use Rattle.std.specs.Prelude.{Result, Ok, Err}
+use Rattle.elementwise.specs.declared.ZeroDivisor.{ZeroDivisor}
 use Rattle.elementwise.specs.Elementwise.{Tensor, step_numbers, out_numbers}
-use Rattle.judge.specs.declared.Refusal.{Refusal}
+use Rattle.judge.specs.Refusals.{Refusal}
 use Rattle.judge.specs.Judge.{refuse, accepted}
 use Rattle.program.specs.declared.Program.{Program as Places}
 use Rattle.program.specs.Program.{program_of}
@@ -27,20 +27,20 @@ use Rattle.evaluation.specs.State.{State, Written, zeroed, copied, InputsStarted
 use Rattle.evaluation.proofs.StateLaw.{drop-two, drop-further, within-needed, first-slots, state-start, state-next, state-stop, state-end, ran-copied}
 
 -- a stop is no tensor, and a tensor no stop
-module _ (number : ℕ) (m : Out Tensor ℕ) (r : Step) (e : step_numbers r ≡ out_numbers number m) where
-  filled-gives : r ≡ Filled → (v : Tensor) × (m ≡ gives v)
+module _ (number : ℕ) (m : Out Tensor ℕ) (r : Result (Unit {0}) ZeroDivisor) (e : step_numbers r ≡ out_numbers number m) where
+  filled-gives : r ≡ Ok tt → (v : Tensor) × (m ≡ gives v)
   filled-gives f = by_out m (ap step_numbers (sym f) ∙ e)
     where
-      by_out : (o : Out Tensor ℕ) → step_numbers Filled ≡ out_numbers number o → (v : Tensor) × (o ≡ gives v)
+      by_out : (o : Out Tensor ℕ) → step_numbers (Ok tt) ≡ out_numbers number o → (v : Tensor) × (o ≡ gives v)
       by_out (gives v) q = (v, refl)
       by_out (stops w) q = let z : ◌≡◌ {A = ℕ} 0 12 = ap (λ n. n.0) q in absurd (omega arith)
 
   -- an op that answers k and z has met a zero divisor, and its three numbers are those of refusal 12
-  zero-stops : (k z : ℕ) → r ≡ Zero k z → (w : ℕ) × (m ≡ stops w) × (refuse 12 k z ≡ refuse 12 number w)
-  zero-stops k z f = by_out m (ap step_numbers (sym f) ∙ e)
+  zero-stops : (z : ZeroDivisor) → r ≡ Err z → (w : ℕ) × (m ≡ stops w) × (refuse 12 z.op z.element ≡ refuse 12 number w)
+  zero-stops z f = by_out m (ap step_numbers (sym f) ∙ e)
     where
-      by_out : (o : Out Tensor ℕ) → step_numbers (Zero k z) ≡ out_numbers number o → (w : ℕ) × (o ≡ stops w) × (refuse 12 k z ≡ refuse 12 number w)
-      by_out (gives v) q = let z : ◌≡◌ {A = ℕ} 12 0 = ap (λ n. n.0) q in absurd (omega arith)
+      by_out : (o : Out Tensor ℕ) → step_numbers (Err z) ≡ out_numbers number o → (w : ℕ) × (o ≡ stops w) × (refuse 12 z.op z.element ≡ refuse 12 number w)
+      by_out (gives v) q = let p : ◌≡◌ {A = ℕ} 12 0 = ap (λ n. n.0) q in absurd (omega arith)
       by_out (stops w) q = (w, refl, ap (λ n. refuse n.0 n.1 n.2) q)
 
 few-slots : (text : List ℕ) → (verdict text).number ≡ 0 → needed_of (values_of text) ≤ 8192
@@ -60,9 +60,9 @@ module _ (text inputs old : List ℕ) (k : ℕ) (done store : List ℕ) (s : Sta
   abbrev n : ℕ
   n = (values_of text).inputs + k
 
-  module _ (a : Places) (starts : List ℕ) (e : Accepts text a (values_of text) starts) (l : k < ops_of (program_of text)) (r : Step) (done2 store2 : List ℕ)
+  module _ (a : Places) (starts : List ℕ) (e : Accepts text a (values_of text) starts) (l : k < ops_of (program_of text)) (r : Result (Unit {0}) ZeroDivisor) (done2 store2 : List ℕ)
       (w : Written k (op_meaning text k done) (offset_at vs n) (offset_at vs (n + 1)) r done done2 store store2) where
-    next : r ≡ Filled → State text inputs old (k + 1) done2 store2
+    next : r ≡ Ok tt → State text inputs old (k + 1) done2 store2
     next f =
         let g = filled-gives k (op_meaning text k done) r w.answers f in
         let d : done2 ≡ take (offset_at vs n) done ++ (g.0 ++ drop (offset_at vs (n + 1)) done) = rw g.1 at w.done-is in
@@ -70,16 +70,16 @@ module _ (text inputs old : List ℕ) (k : ℕ) (done store : List ℕ) (s : Sta
         rw (d, t) (state-next text inputs old e.verdict k l done store s g.0 (drop (offset_at vs (n + 1)) done) (drop (offset_at vs (n + 1)) store) g.1
         (ap (λ (m : ℕ). drop m store) (sym (offset-next vs n))))
 
-    stop : (y z : ℕ) → r ≡ Zero y z → needed_of vs ≤ length store
-        → answer (refuse 12 y z) (zeroed (offset_at vs n) (needed_of vs) store2) ≡ ran text inputs old
-    stop y z f room =
+    stop : (z : ZeroDivisor) → r ≡ Err z → needed_of vs ≤ length store
+        → answer (refuse 12 z.op z.element) (zeroed (offset_at vs n) (needed_of vs) store2) ≡ ran text inputs old
+    stop z f room =
         let at : ℕ = offset_at vs n in
         let end : ℕ = offset_at vs (n + 1) in
         let needed : ℕ = needed_of vs in
         let one : n + 1 ≡ vs.inputs + (k + 1) = omega arith in
         let up : end ≤ needed = rw one (within-needed text (k + 1) (omega arith)) in
         let up2 : at ≤ end = offset-le vs n (n + 1) (omega arith) in
-        let met = zero-stops k (op_meaning text k done) r w.answers y z f in
+        let met = zero-stops k (op_meaning text k done) r w.answers z f in
         let m : op_meaning text k done ≡ stops met.0 = met.1 in
         let long : length (take at store) ≡ at = length-take-le at store (omega arith) in
         let is : store2 ≡ take at store ++ (replicate (end - at) 0 ++ drop end store) = rw m at w.store_is in
@@ -88,8 +88,8 @@ module _ (text inputs old : List ℕ) (k : ℕ) (done store : List ℕ) (s : Sta
         let behind : drop end store2 ≡ drop end store =
         ap (drop end) is ∙ subst (λ (i : ℕ). drop i (take at store ++ (replicate (end - at) 0 ++ drop end store)) ≡ drop end store) whole
         (drop-two (take at store) (replicate (end - at) 0) (drop end store) at (end - at) long (length-replicate (end - at) 0)) in
-        ap (λ (u : List ℕ). answer (refuse 12 y z) (u ++ (replicate (needed - at) 0 ++ drop needed store2))) front
-        ∙ ap (λ (u : List ℕ). answer (refuse 12 y z) (take at store ++ (replicate (needed - at) 0 ++ u))) (drop-further end needed store2 store up behind)
+        ap (λ (u : List ℕ). answer (refuse 12 z.op z.element) (u ++ (replicate (needed - at) 0 ++ drop needed store2))) front
+        ∙ ap (λ (u : List ℕ). answer (refuse 12 z.op z.element) (take at store ++ (replicate (needed - at) 0 ++ u))) (drop-further end needed store2 store up behind)
         ∙ ap (λ (f : Refusal). answer f (take at store ++ (replicate (needed - at) 0 ++ drop needed store))) met.2
         ∙ state-stop text inputs old e.verdict k l done store s met.0 m room
 
@@ -116,26 +116,26 @@ module _ (text : List ℕ) (p : Places) (vs : Values) (starts : List ℕ) (a : A
     pub run-held : ValuesHeld vs (vs.inputs + k) done
     run-held = as_read (λ q ws. ValuesHeld ws (ws.inputs + k) done) s.held
 
-    module _ (l : k < ops_of p) (r : Step) (done2 store2 : List ℕ)
+    module _ (l : k < ops_of p) (r : Result (Unit {0}) ZeroDivisor) (done2 store2 : List ℕ)
         (w : Written k (op_meaning text k done) (offset_at vs (vs.inputs + k)) (offset_at vs (vs.inputs + k + 1)) r done done2 store store2) where
-      pub run-next : r ≡ Filled → State text inputs old (k + 1) done2 store2
+      pub run-next : r ≡ Ok tt → State text inputs old (k + 1) done2 store2
       run-next =
           as_read (λ q ws. k < ops_of q → Written k (op_meaning text k done) (offset_at ws (ws.inputs + k)) (offset_at ws (ws.inputs + k + 1)) r done done2 store store2
-          → r ≡ Filled → State text inputs old (k + 1) done2 store2)
+          → r ≡ Ok tt → State text inputs old (k + 1) done2 store2)
           (λ m v. next text inputs old k done store s (program_of text) starts own m r done2 store2 v) l w
 
       -- zeros from the op's first slot to the last needed one
-      run-stop : (y z : ℕ) → r ≡ Zero y z → needed_of vs ≤ length store
-          → answer (refuse 12 y z) (zeroed (offset_at vs (vs.inputs + k)) (needed_of vs) store2) ≡ ran text inputs old
-      run-stop y z =
+      run-stop : (z : ZeroDivisor) → r ≡ Err z → needed_of vs ≤ length store
+          → answer (refuse 12 z.op z.element) (zeroed (offset_at vs (vs.inputs + k)) (needed_of vs) store2) ≡ ran text inputs old
+      run-stop z =
           as_read (λ q ws. k < ops_of q → Written k (op_meaning text k done) (offset_at ws (ws.inputs + k)) (offset_at ws (ws.inputs + k + 1)) r done done2 store store2
-          → r ≡ Zero y z → needed_of ws ≤ length store
-          → answer (refuse 12 y z) (zeroed (offset_at ws (ws.inputs + k)) (needed_of ws) store2) ≡ ran text inputs old)
-          (λ m v. stop text inputs old k done store s (program_of text) starts own m r done2 store2 v y z) l w
+          → r ≡ Err z → needed_of ws ≤ length store
+          → answer (refuse 12 z.op z.element) (zeroed (offset_at ws (ws.inputs + k)) (needed_of ws) store2) ≡ ran text inputs old)
+          (λ m v. stop text inputs old k done store s (program_of text) starts own m r done2 store2 v z) l w
 
-      pub run-stopped : (y z at end : ℕ) (final : List ℕ) → r ≡ Zero y z → needed_of vs ≤ length store → final ≡ zeroed at end store2 → at ≡ offset_at vs (vs.inputs + k) → end ≡ needed_of vs
-          → answer (refuse 12 y z) final ≡ ran text inputs old
-      run-stopped y z at end final f room e q u = rw (e, q, u) (run-stop y z f room)
+      pub run-stopped : (z : ZeroDivisor) (at end : ℕ) (final : List ℕ) → r ≡ Err z → needed_of vs ≤ length store → final ≡ zeroed at end store2 → at ≡ offset_at vs (vs.inputs + k) → end ≡ needed_of vs
+          → answer (refuse 12 z.op z.element) final ≡ ran text inputs old
+      run-stopped z at end final f room e q u = rw (e, q, u) (run-stop z f room)
 
   -- op k begins within the slots needed
   pub run-within : (k : ℕ) → k ≤ ops_of p → offset_at vs (vs.inputs + k) ≤ needed_of vs

@@ -6,7 +6,7 @@ use Rattle.run.specs.Run.{Answer, results, stopped}
 use Rattle.run.specs.Ways.{evaluation}
 use Rattle.elementwise.specs.Elementwise.{Tensor}
 use Rattle.ops.specs.Ops.{hlo}
-use Rattle.judge.specs.declared.Refusal.{Refusal}
+use Rattle.judge.specs.Refusals.{Refusal}
 use Rattle.judge.specs.Judge.{refuse, accepted}
 use Rattle.values.specs.Values.{values_of}
 use Rattle.offsets.specs.Offsets.{needed_of}

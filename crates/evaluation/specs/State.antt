@@ -1,9 +1,9 @@
 -- Where evaluating stands between two ops.
 -- Assumes nothing.
-use Rattle.std.specs.Prelude.{◌≡◌, List, ◌++◌, ℕ, ◌+◌, ◌-◌, ◌≤◌, length, take, drop, replicate}
+use Rattle.std.specs.Prelude.{◌≡◌, Result, List, ◌++◌, ℕ, ◌+◌, ◌-◌, ◌≤◌, length, take, drop, replicate}
 use Rattle.run.specs.Run.{Out, on_out, evaluate_from}
 use Rattle.run.specs.Ways.{language_of}
-use Rattle.elementwise.specs.declared.Step.{Step}
+use Rattle.elementwise.specs.declared.ZeroDivisor.{ZeroDivisor}
 use Rattle.elementwise.specs.Elementwise.{Tensor, step_numbers, out_numbers}
 use Rattle.ops.specs.Ops.{hlo}
 use Rattle.values.specs.declared.Values.{Values}
@@ -36,7 +36,7 @@ pub record Stretch (vs : Values) (n at end room space : ℕ) : Type 0 where
   pub small : end ≤ 8192
 
 -- what the op with this number, whose stretch is at..end, answers and leaves in `done` and in the store: its tensor; where it stops, zeros in the store
-pub record Written (number : ℕ) (m : Out Tensor ℕ) (at end : ℕ) (r : Step) (done done2 store store2 : List ℕ) : Type 0 where
+pub record Written (number : ℕ) (m : Out Tensor ℕ) (at end : ℕ) (r : Result (Unit {0}) ZeroDivisor) (done done2 store store2 : List ℕ) : Type 0 where
   pub answers : step_numbers r ≡ out_numbers number m
   pub done-is : done2 ≡ on_out m (λ v. take at done ++ (v ++ drop end done)) (λ w. done)
   pub store_is : store2 ≡ take at store ++ (on_out m (λ v. v) (λ w. replicate (end - at) 0) ++ drop end store)

@@ -65,11 +65,11 @@ pub sought-none : (before : List ℕ) (top kind : ℕ) → top ≤ length before
 sought-none before top kind h = record { past = omega arith; within = h; steps = refl }
 
 pub sought-all : (before : List ℕ) (top kind i : ℕ) → Sought before top kind i → length before ≤ i →
-    Advanced before top kind (record { fits = false; role = 0; top = i }) before
+    Advanced before top kind (record { fits = false; role = 0; top = length before }) before
 sought-all before top kind i w h =
     let f = w.within in
     let g = w.past in
-    failed before top kind i (sym w.steps ∙ turn_end before i kind h) (omega arith) (omega arith)
+    failed before top kind (length before) (sym w.steps ∙ turn_end before i kind h) refl (omega arith)
 
 head-get : (l : List ℕ) → get_or l 0 0 ≡ head_of l
 head-get [] = refl

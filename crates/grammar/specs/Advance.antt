@@ -1,12 +1,23 @@
 -- What one step of the code does: the stack stands in an array and grows down, so that what is expected is `drop top`.
 -- Assumes nothing.
-use Rattle.std.specs.Prelude.{ℕ, ◌+◌, ◌-◌, ◌≤◌, ◌≡◌, Bool, true, false, List, [], ◌∷◌, ◌++◌, length, take, drop, set}
-use Rattle.grammar.specs.declared.Step.{Step}
+use Rattle.std.specs.Prelude.{ℕ, ◌+◌, ◌-◌, ◌≤◌, ◌≡◌, Bool, true, false, List, [], ◌∷◌, ◌++◌, length, take, drop, set, Option, Some, None}
+use Rattle.grammar.specs.declared.Taken.{Taken}
 use Rattle.grammar.specs.Machine.{Cell, fails, skips, takes, step}
+
+-- one step: whether the token fits, its role (0 where it does not fit), and where the stack then starts (its end where it does not fit)
+pub record Stepped : Type 0 where
+  pub fits : Bool
+  pub role : ℕ
+  pub top : ℕ
+
+-- what the code answers as a step, on an array of n places
+abbrev pub step_of : ℕ → Option Taken → Stepped
+step_of n (Some t) = record { fits = true; role = t.role; top = t.top }
+step_of n None = record { fits = false; role = 0; top = n }
 
 -- an answer, and the array afterwards
 pub record Advance : Type 0 where
-  pub answer : Step
+  pub answer : Stepped
   pub array : List ℕ
 
 abbrev pub advance : Bool → ℕ → ℕ → List ℕ → Advance
@@ -39,7 +50,7 @@ pub record Pushed (before : List ℕ) (top : ℕ) (tail : List ℕ) (r : ℕ) (a
   pub size : length after ≡ length before
 
 -- the contract of one step: an equation, and what follows from it for the next step
-pub record Advanced (before : List ℕ) (top kind : ℕ) (s : Step) (after : List ℕ) : Type 0 where
+pub record Advanced (before : List ℕ) (top kind : ℕ) (s : Stepped) (after : List ℕ) : Type 0 where
   pub exact : record { answer = s; array = after } ≡ advance_by before (step (drop top before) kind)
   pub steps : step_outcome s.fits s.role (drop s.top after) ≡ step (drop top before) kind
   pub size : length after ≡ length before

@@ -7,7 +7,7 @@ mod tables;
 ghost use Rattle.std.specs.Prelude.{◌≡◌, ◌<◌, ◌≤◌, length, get_or};
 ghost use Rattle.grammar.specs.Machine.{cell};
 ghost use Rattle.grammar.specs.Tables.{right_of, head_of, tail_of, lettered, IsRule};
-ghost use Rattle.grammar.specs.Advance.{Started, Pushed, Advanced};
+ghost use Rattle.grammar.specs.Advance.{step_of, Started, Pushed, Advanced};
 
 use symbols::{Kind, Symbol};
 
@@ -15,13 +15,11 @@ use symbols::{Kind, Symbol};
 fn cell_at(s: u8, kind: u8) -> u8
     ensures { (lettered s result ≡ cell s kind) × (result < 122) }
 {
-    if s < Symbol::COUNT {
-        if kind < Kind::COUNT {
-            return tables::CELLS[s as usize * 32 + kind as usize];
-        }
-        return b'.';
+    if s < Symbol::COUNT && kind < Kind::COUNT {
+        tables::CELLS[s as usize * 32 + kind as usize]
+    } else {
+        b'.'
     }
-    b'.'
 }
 
 // Symbol number k of the right side of a production, by the production's letter.
@@ -55,61 +53,44 @@ fn push(stack: &mut [u8], top: usize, p: u8) -> usize
     requires { IsRule p × (9 ≤ top) × (top ≤ length stack.old) }
     ensures { Pushed stack.old top (tail_of (right_of p)) result stack.new }
 {
-    let mut k = tail_length(p) as usize;
-    let mut i = top;
-    while k > 0 {
-        k -= 1;
-        i -= 1;
-        stack[i] = symbol_of(p, k + 1);
+    let n = tail_length(p) as usize;
+    let next = top - n;
+    for k in 0..n {
+        stack[next + k] = symbol_of(p, k + 1);
     }
-    i
+    next
 }
 
-// One step: whether the token fits, its role (0 where it does not fit), and where the stack then starts (its end where it does not fit).
+// A token's role, and where the stack then starts.
 #[derive(Clone, Copy)]
-pub struct Step {
-    pub fits: bool,
+pub struct Taken {
     pub role: u8,
     pub top: usize,
 }
 
-// One token of this kind: what is expected stands in the array from top to its end, the next symbol first.
-pub fn advance(stack: &mut [u8], top: usize, kind: u8) -> Step
+// One token of this kind, none where it does not fit: what is expected stands in the array from top to its end, the next symbol first.
+pub fn advance(stack: &mut [u8], top: usize, kind: u8) -> Option<Taken>
     requires { (10 ≤ top) × (top ≤ length stack.old) }
-    ensures { Advanced stack.old top kind result stack.new }
+    ensures { Advanced stack.old top kind (step_of (length stack.old) result) stack.new }
 {
-    let mut i = top;
-    while i < stack.len() {
+    for i in top..stack.len() {
         let s = stack[i];
-        let c = cell_at(s, kind);
-        if c >= b'0' {
-            let role = symbol_of(c, 0);
-            let next = push(stack, i + 1, c);
-            return Step {
-                fits: true,
-                role: role,
-                top: next,
-            };
+        match cell_at(s, kind) {
+            b'-' => {}
+            b'+' => {
+                return Some(Taken {
+                    role: s,
+                    top: i + 1,
+                });
+            }
+            p if p >= b'0' => {
+                return Some(Taken {
+                    role: symbol_of(p, 0),
+                    top: push(stack, i + 1, p),
+                });
+            }
+            _ => return None,
         }
-        if c == b'+' {
-            return Step {
-                fits: true,
-                role: s,
-                top: i + 1,
-            };
-        }
-        if c != b'-' {
-            return Step {
-                fits: false,
-                role: 0,
-                top: stack.len(),
-            };
-        }
-        i += 1;
     }
-    Step {
-        fits: false,
-        role: 0,
-        top: i,
-    }
+    None
 }

@@ -11,7 +11,7 @@ use lib.ListN.{length, get_or, drop}
 use lib.Seq.{get_or-take, get_or-drop}
 use borrow.Author.Tests.{eq-eqb, le-leb, lt-leb}
 use Rattle.lists.specs.Lists.{tab, All}
-use Rattle.lists.proofs.TabLaw.{length-tab, get_or-tab, tab-get_or}
+use Rattle.lists.proofs.TabLaw.{length-tab, tab-get_or}
 use Rattle.lists.proofs.SearchLaw.{first-le}
 use Rattle.lists.proofs.AllLaw.{all-tab}
 use Rattle.element.specs.Types.{SlotHolds}

@@ -1,7 +1,7 @@
 // The input slice against the program's inputs.
 #![tactic(auto)]
 
-ghost use Rattle.std.specs.Prelude.{◌≡◌, ◌≤◌, ◌<◌, length};
+ghost use Rattle.std.specs.Prelude.{◌≡◌, ◌≤◌, ◌<◌, length, unwrap_or, IfSome};
 ghost use Rattle.offsets.specs.Offsets.{ValuesRead, offsets_of};
 ghost use Rattle.inputs.specs.Inputs.{input_slots, input_of, slot_fits, first_foreign};
 
@@ -15,9 +15,7 @@ pub fn input_slots(vs: Values) -> usize
     requires { ValuesRead vs × (vs.inputs ≤ 8) }
     ensures { result ≡ input_slots vs }
 {
-    let offsets = offsets_of(vs);
-    let count = vs.inputs;
-    offsets[count]
+    offsets_of(vs)[vs.inputs]
 }
 
 // The input that slot s belongs to.
@@ -38,25 +36,20 @@ fn slot_fits(vs: Values, offsets: [usize; Limits::VALUES], inputs: &[u64], s: us
     requires { (offsets ≡ offsets_of vs) × (vs.inputs ≤ 8) × (s < length inputs.now) }
     ensures { result ≡ slot_fits vs inputs.now s }
 {
-    let i = input_of(vs, offsets, s);
-    let list = vs.list;
-    let v = list[i];
-    let t = v.ty;
-    let e = t.element;
-    is_value(e, inputs[s])
+    is_value(vs.list[input_of(vs, offsets, s)].ty.element, inputs[s])
 }
 
-// The lowest input slot that is no value of its type; the number of input slots where all are.
-pub fn first_foreign(vs: Values, inputs: &[u64]) -> usize
+// The lowest input slot that is no value of its type.
+pub fn first_foreign(vs: Values, inputs: &[u64]) -> Option<usize>
     requires { ValuesRead vs × (vs.inputs ≤ 8) × (length inputs.now ≡ input_slots vs) }
-    ensures { result ≡ first_foreign vs inputs.now }
+    ensures lowest { unwrap_or result (input_slots vs) ≡ first_foreign vs inputs.now }
+    ensures within { IfSome result (λ s. s < input_slots vs) }
 {
     let offsets = offsets_of(vs);
-    let count = inputs.len();
-    for s in 0..count {
+    for s in 0..inputs.len() {
         if !slot_fits(vs, offsets, inputs, s) {
-            return s;
+            return Some(s);
         }
     }
-    count
+    None
 }

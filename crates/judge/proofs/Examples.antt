@@ -22,7 +22,7 @@ use Rattle.grammar.specs.Grammar.{grammar}
 use Rattle.grammar.specs.Machine.{cell, step}
 use Rattle.syntax.specs.Kinds.{mark_kind, name_kind, word_kind, quoted_kind, token_kind, kind_of}
 use Rattle.syntax.specs.Readings.{readings_from, readings_of, readings}
-use Rattle.judge.specs.declared.Refusal.{Refusal}
+use Rattle.judge.specs.Refusals.{Refusal}
 use Rattle.judge.specs.declared.tally.Tally.{Tally}
 use Rattle.judge.specs.Roles.{among_roles}
 use Rattle.judge.specs.Tally.{item_number, counts, elements_at, items_after, ops_after, tally_depth, after_token}

@@ -1,4 +1,5 @@
 pub mod NameLaw
+pub mod RefusedLaw
 pub mod RoleLaw
 pub mod TallyLaw
 pub mod TurnLaw

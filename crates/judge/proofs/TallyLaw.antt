@@ -13,7 +13,7 @@ use Rattle.shape.specs.Index.{size}
 use Rattle.shape.specs.Dims.{dims_of, Sized}
 use Rattle.shape.proofs.IndexLaw.{size-le-volume}
 use Rattle.types.specs.Tensors.{type_of}
-use Rattle.types.specs.declared.tensors.TypeRead.{TypeRead}
+use Rattle.types.specs.Tensors.{TypeRead}
 use Rattle.types.proofs.TypeLaw.{type-sized}
 use Rattle.grammar.specs.Symbols.{OpName, BodyOpen, BodyClose}
 use Rattle.judge.specs.declared.tally.Tally.{Tally}
@@ -41,8 +41,8 @@ elements-le text s role t = by_tests (counts s role) (type_of text t.start).know
     by_tests false r q k p = omega arith
 
 -- a type as the code reads it
-pub read-sized : (text : List ℕ) (start : ℕ) (x : TypeRead) → x ≡ type_of text start → x.known ≡ true → x.passed ≡ 0 → Sized x.shape
-read-sized text start x e k p = rw e (type-sized text start (rw e at k) (rw e at p))
+pub read_sized : (text : List ℕ) (start : ℕ) (x : TypeRead) → x ≡ type_of text start → x.known ≡ true → x.passed ≡ 0 → Sized x.shape
+read_sized text start x e k p = rw e (type-sized text start (rw e at k) (rw e at p))
 
 pub within-start : (n : ℕ) → TallyWithin n at_start
 within-start n = record { items = omega arith; elements = omega arith; ops = omega arith; depth = omega arith }

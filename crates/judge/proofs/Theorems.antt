@@ -12,7 +12,7 @@ use Rattle.lists.specs.Lists.{pick}
 use Rattle.syntax.specs.Readings.{Reading, readings, Fault, no_fault, fault_at, fault_in, grammar_fault, fault_numbers}
 use Rattle.syntax.specs.Sentences.{InGrammar, FailsAt}
 use Rattle.syntax.proofs.Theorems.{sentence, fault-exact, no-fault}
-use Rattle.judge.specs.declared.Refusal.{Refusal}
+use Rattle.judge.specs.Refusals.{Refusal}
 use Rattle.judge.specs.declared.tally.Tally.{Tally}
 use Rattle.judge.specs.Tally.{at_start, after_token}
 use Rattle.judge.specs.Sizes.{size_passed}

@@ -8,7 +8,7 @@ use Rattle.optable.specs.Table.{op_names, attribute_names, choice_kind_names, ch
 use Rattle.optable.specs.Find.{find_op, find_attribute, find_choice_kind, find_choice}
 use Rattle.grammar.specs.Symbols.{Program, AttributeName, ChoiceKind, Choice}
 use Rattle.syntax.specs.Readings.{Reading, readings_of}
-use Rattle.judge.specs.declared.Refusal.{Refusal}
+use Rattle.judge.specs.Refusals.{Refusal}
 use Rattle.judge.specs.declared.tally.Tally.{Tally}
 use Rattle.judge.specs.Roles.{among_roles, op_roles, type_roles}
 use Rattle.judge.specs.Tally.{at_start, after_token}

@@ -1,4 +1,5 @@
 pub mod Roles
 pub mod Tally
 pub mod Sizes
+pub mod Refusals
 pub mod Judge

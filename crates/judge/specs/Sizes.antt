@@ -1,6 +1,6 @@
 -- 01, "Sizes": which of the eight sizes a token passes. "At the limit is accepted, one beyond is refused at the token that passes it."
 -- Assumes nothing.
-use Rattle.std.specs.Prelude.{ℕ, suc, ◌+◌, ◌-◌, Bool, not, ◌&&◌, List, [], ◌∷◌, eqb, ltb}
+use Rattle.std.specs.Prelude.{ℕ, suc, ◌+◌, ◌-◌, Bool, not, ◌&&◌, List, [], ◌∷◌, eqb, ltb, Option, Some, None}
 use Rattle.lists.specs.Lists.{pick}
 use Rattle.text.specs.declared.Token.{Token}
 use Rattle.types.specs.Tensors.{type_of}
@@ -60,3 +60,7 @@ first_passed n (b ∷ bs) = pick b n (first_passed (suc n) bs)
 -- "Two at one token: the lower number."
 unfoldable pub size_passed : List ℕ → Tally → ℕ → Token → ℕ
 size_passed text s role t = first_passed 1 (passes text s role t)
+
+-- a size's number as the code gives it: none for 0
+abbrev pub size_found : ℕ → Option ℕ
+size_found n = pick (eqb n 0) None (Some n)

@@ -18,83 +18,77 @@ pub struct Tally {
     pub depth: usize,
 }
 
+#[tactic(auto, unfolding(crate::specs::Tally::item_number))]
 pub fn item_number(s: Tally) -> usize
     requires { TallyWithin 65536 s }
     ensures { result ≡ item_number s }
 {
-    if s.more {
-        return s.items + 1;
-    }
-    1
+    if s.more { s.items + 1 } else { 1 }
 }
 
 // Whether size 3 counts the elements of a type of this role.
+#[tactic(auto, unfolding(crate::specs::Tally::counts))]
 fn is_counted(s: Tally, role: u8) -> bool
     ensures { result ≡ counts s role }
 {
-    if role == Role::INPUT_TYPE {
-        return true;
-    }
-    if role == Role::RESULT_TYPE {
-        return s.depth == 0;
-    }
-    false
+    role == Role::INPUT_TYPE || (role == Role::RESULT_TYPE && s.depth == 0)
 }
 
+#[tactic(auto, unfolding(crate::specs::Tally::elements_at))]
 pub fn elements_at(text: &[u8], s: Tally, role: u8, t: Token) -> usize
     ensures { result ≡ elements_at text.now s role t }
 {
-    if is_counted(s, role) {
-        let x = type_at(text, t.start);
-        if x.known {
-            if x.passed == 0 {
-                let shape = x.shape;
-                return size_of(shape);
-            }
-            return 0;
-        }
+    if !is_counted(s, role) {
         return 0;
     }
-    0
+    let Some(x) = type_at(text, t.start) else {
+        return 0;
+    };
+    if x.passed.is_none() {
+        size_of(x.shape)
+    } else {
+        0
+    }
 }
 
+#[tactic(auto, unfolding(crate::specs::Tally::items_after))]
 fn items_after(s: Tally, role: u8) -> usize
     requires { TallyWithin 65536 s }
     ensures { result ≡ items_after s role }
 {
     if is_item(role) {
-        return item_number(s);
+        item_number(s)
+    } else {
+        s.items
     }
-    s.items
 }
 
+#[tactic(auto, unfolding(crate::specs::Tally::ops_after))]
 fn ops_after(s: Tally, role: u8) -> usize
     requires { TallyWithin 65536 s }
     ensures { result ≡ ops_after s role }
 {
     if role == Role::OP_NAME {
-        return s.ops + 1;
+        s.ops + 1
+    } else {
+        s.ops
     }
-    s.ops
 }
 
+#[tactic(auto, unfolding(crate::specs::Tally::tally_depth))]
 fn depth_after(s: Tally, role: u8) -> usize
     requires { TallyWithin 65536 s }
     ensures { result ≡ tally_depth s role }
 {
-    if role == Role::BODY_OPEN {
-        return s.depth + 1;
+    match role {
+        Role::BODY_OPEN => s.depth + 1,
+        Role::BODY_CLOSE => s.depth.saturating_sub(1),
+        _ => s.depth,
     }
-    if role == Role::BODY_CLOSE {
-        if s.depth == 0 {
-            return 0;
-        }
-        return s.depth - 1;
-    }
-    s.depth
 }
 
 // The state after a token.
+#[tactic(auto, unfolding(crate::specs::Tally::after_token))]
 pub fn after_token(text: &[u8], s: Tally, role: u8, t: Token) -> Tally
     requires { TallyWithin 65536 s }
     ensures { result ≡ after_token text.now s role t }

@@ -8,27 +8,17 @@ ghost use Rattle.attribute.specs.Attribute.{dense_tokens};
 ghost use Rattle.places.specs.Places.{body_open, place_of};
 ghost use Rattle.attributes.specs.Attributes.{name_of, choice_of};
 ghost use Rattle.bodies.specs.Bodies.{body_row};
-ghost use Rattle.nodes.specs.Nodes.{operation_by, reducer_at, op_kind};
+ghost use Rattle.nodes.specs.Nodes.{reducer_at, op_kind};
 
 use attribute::dense_at;
 use attributes::{choice_of, name_of};
 use bodies::body_row;
 use ops::Kind;
-use optable::{Attributes, Class, Reducer, direction_at, op_row};
+use optable::{Attributes, Class, direction_at, op_row};
 use places::{Part, place_of};
 use program::Parts;
 use scalar::Body;
 use typing::row_of;
-
-// The operation of a body of an op.
-fn operation_by(r: Reducer) -> Body
-    ensures { result ≡ operation_by r }
-{
-    match r {
-        Reducer::Not => Body::Add,
-        Reducer::By(b) => b,
-    }
-}
 
 // A compare by its direction.
 fn compare_of(text: &[u8], op: Parts) -> Kind
@@ -42,11 +32,11 @@ fn reduce_of(text: &[u8], op: Parts) -> Kind
     ensures { result ≡ Reduce (reducer_at (body_row text.now (place_of op body_open 0))) }
 {
     let body = body_row(text, place_of(op, Part::BODY_OPEN, 0));
-    let reducer = op_row(body).reducer;
-    Kind::Reduce(operation_by(reducer))
+    Kind::Reduce(op_row(body).reducer.unwrap_or(Body::Add))
 }
 
 // The class of an op.
+// Kept: Class beside Kind, since Kind also has what stands in the text, compare's direction and reduce's operation.
 pub fn kind_of(text: &[u8], op: Parts) -> Kind
     ensures { result ≡ op_kind text.now op }
 {

@@ -11,7 +11,7 @@ use lib.Seq.{get_or-drop}
 use Rattle.lists.specs.Lists.{tab}
 use Rattle.lists.proofs.TabLaw.{tab-cong}
 use Rattle.grammar.proofs.StackLaw.{drop-put}
-use Rattle.scope.specs.declared.NameFault.{NameFault}
+use Rattle.scope.specs.Faults.{NameFault}
 use Rattle.scope.specs.Scope.{names_of, inputs_from, fault_of}
 use Rattle.program.specs.declared.Parts.{Parts}
 use Rattle.places.specs.Places.{place_of}

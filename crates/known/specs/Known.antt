@@ -6,7 +6,7 @@ use Rattle.program.specs.declared.Parts.{Parts}
 use Rattle.places.specs.Places.{input_name, place_of}
 use Rattle.values.specs.declared.Value.{Value}
 use Rattle.values.specs.Values.{no_value}
-use Rattle.scope.specs.declared.NameFault.{NameFault}
+use Rattle.scope.specs.Faults.{NameFault}
 use Rattle.scope.specs.Scope.{names_of, inputs_from, fault_of}
 
 -- the names of the first n values as entries of a scope, the last one first

@@ -2,12 +2,13 @@
 #![tactic(auto)]
 
 ghost use Rattle.std.specs.Prelude.{◌≡◌, ◌-◌, ◌≤◌, length, drop};
+ghost use Rattle.scope.specs.Faults.{name_numbers};
 ghost use Rattle.known.specs.Known.{known_names, names_fault, inputs_fault};
 
 use limits::Limits;
 use places::Part;
 use program::Parts;
-use scope::{NameFault, inputs_in, names_in};
+use scope::{BadName, inputs_in, names_in};
 use values::Values;
 
 // The names in scope: one free place for each token of the longest text, and one for each value.
@@ -40,18 +41,23 @@ pub fn op_names(
     n: usize,
     stack: &mut [u8],
     entries: &mut [usize],
-) -> NameFault
+) -> Result<(), BadName>
     requires { (length text.now ≤ 65536) × (length stack.old ≡ 655380) × (n ≤ 264) × (length entries.old ≡ 65801) }
-    ensures { result ≡ names_fault text.now values.list n at }
+    ensures { name_numbers result ≡ names_fault text.now values.list n at }
 {
     lay_names(values, n, entries);
     names_in(text, at, stack, entries, Entries::SIZE - n)
 }
 
 // The names of the first n inputs of a header.
-pub fn input_names(text: &[u8], header: Parts, n: usize, entries: &mut [usize]) -> NameFault
+pub fn input_names(
+    text: &[u8],
+    header: Parts,
+    n: usize,
+    entries: &mut [usize],
+) -> Result<(), BadName>
     requires { (n ≤ 8) × (length entries.old ≡ 65801) }
-    ensures { result ≡ inputs_fault text.now header n }
+    ensures { name_numbers result ≡ inputs_fault text.now header n }
 {
     let places = header.at;
     let first = Limits::OPERANDS * Part::INPUT_NAME;

@@ -4,15 +4,19 @@ use Rattle.std.specs.Prelude.{ℕ, ◌+◌, List, [], ◌∷◌, ◌++◌, lengt
 use Rattle.lists.specs.Lists.{pick}
 
 -- the place of the next element, and what the memory holds
-pub record Laid : Type 0 where
+pub record Memory (A : Type 0) : Type 0 where
   pub place : ℕ
-  pub memory : List ℕ
+  pub memory : List A
 
-abbrev pub laid : ℕ → List ℕ → Laid
+-- memory of numbers
+abbrev pub Laid : Type 0
+Laid = Memory ℕ
+
+abbrev pub laid : {A : Type 0} → ℕ → List A → Memory A
 laid place memory = record { place = place; memory = memory }
 
 -- one element more, where there is room for it
-unfoldable pub put : ℕ → Laid → Laid
+unfoldable pub put : {A : Type 0} → A → Memory A → Memory A
 put x l = pick (ltb l.place (length l.memory)) (laid (l.place + 1) (set l.memory l.place x)) l
 
 -- the elements of a list, one after the other

@@ -3,42 +3,19 @@
 use mathlib.Core.Path.{◌≡◌, refl, sym, ap, ◌∙◌}
 use mathlib.Core.List.{List}
 use mathlib.Core.Bool.{Bool, true, false}
-use Prim.Native.Nat.{ℕ, zero, suc, ◌+◌, ◌*◌, ◌-◌, ◌/◌, ◌%◌, ◌^◌, ◌≤◌, ◌<◌}
+use Prim.Native.Nat.{ℕ, ◌+◌, ◌*◌, ◌/◌, ◌%◌, ◌<◌}
 use native.Mathlib.Nat.{mul-mod_left, mul-div_cancel, div-add-mod'}
-use native.Mathlib.Numerals.{add-one}
 use native.Mathlib.Omega.{arith}
 use lib.ListN.{length, get_or}
 use lib.IntN.{ℤ, pos, negsuc, ◌+ℤ◌, ◌-ℤ◌, ◌*ℤ◌, +ℤ_comm, +ℤ-neg_ℤ_cancel, -ℤ-+ℤ_cancel}
 use lib.Dec.{eqb}
-use borrow.Author.Tests.{lt-ltb, le-ltb, eq-eqb, eqb-true}
+use borrow.Author.Tests.{eq-eqb, eqb-true}
 use Rattle.lists.specs.Lists.{pick, tab}
 use Rattle.lists.proofs.TabLaw.{get_or-tab}
 use Rattle.shape.specs.Index.{at, IndexOf, element_at}
-use Rattle.shape.specs.Whole.{number_of}
 use Rattle.shape.proofs.ElementLaw.{element-default}
-use Rattle.shape.proofs.WholeLaw.{number-low, number-high}
 use Rattle.maps.specs.Formulas.{pad_step, pad_coord, pad_index, padded}
 use Rattle.maps.proofs.GatherLaw.{gathered-at, index_is, index-of-tab}
-
--- ---- the (pad_index low interior from (at i)) as the code finds it, by the sign of edge_padding_low
-
-module _ (low interior n x : ℕ) where
-  pub pad-above : low < 2 ^ 63 → x < low → n ≡ pad_coord (number_of low) interior n x
-  pad-above h l = rw (number-low h) (go low l)
-    where
-      go : (m : ℕ) → x < m → n ≡ pad_coord (pos m) interior n x
-      go zero l = absurd (let z : ⊥ = omega arith in z)
-      go (suc m) l = rw (lt-ltb x (suc m) l)
-
-  pub pad-below : low < 2 ^ 63 → low ≤ x → pad_step interior n (pos (x - low)) ≡ pad_coord (number_of low) interior n x
-  pad-below h l = rw (number-low h) (go low l)
-    where
-      go : (m : ℕ) → m ≤ x → pad_step interior n (pos (x - m)) ≡ pad_coord (pos m) interior n x
-      go zero l = ap (λ (t : ℕ). pad_step interior n (pos t)) (let e : x - 0 ≡ x + 0 = omega arith in e)
-      go (suc m) l = rw (le-ltb x (suc m) l)
-
-  pub pad-negative : 2 ^ 63 ≤ low → low < 2 ^ 64 → pad_step interior n (pos (x + (18446744073709551615 - low + 1))) ≡ pad_coord (number_of low) interior n x
-  pad-negative h l = rw (number-high h) (ap (λ (t : ℕ). pad_step interior n (pos (x + t))) (add-one (18446744073709551615 - low)))
 
 -- ---- one coordinate: "result_index = edge_padding_low + operand_index * (interior_padding + 1)"
 

@@ -1,16 +1,13 @@
 -- slice and dynamic_slice: every operand index is an index of the operand.
 -- Assumes nothing.
-use mathlib.Core.Path.{◌≡◌, refl, sym, ap, ◌∙◌, subst}
+use mathlib.Core.Path.{◌≡◌, sym, ap, ◌∙◌, subst}
 use mathlib.Core.List.{List}
-use mathlib.Core.Bool.{true, false, false≢true}
-use Prim.Native.Nat.{ℕ, suc, ◌+◌, ◌*◌, ◌-◌, ◌≤◌, ◌<◌, min}
+use Prim.Native.Nat.{ℕ, suc, ◌+◌, ◌*◌, ◌-◌, ◌≤◌, ◌<◌}
 use native.Mathlib.Nat.{le-div_iff_mul-le, suc-mul, mul-one}
 use native.Mathlib.Omega.{arith}
 use lib.ListN.{length, take, replicate, get_or-replicate}
 use lib.Seq.{get_or-take}
-use lib.IntN.{ℤ, pos, negsuc, nat_abs}
-use lib.Signed.{lt_z}
-use borrow.Author.Tests.{ltb-true}
+use lib.IntN.{ℤ, pos, negsuc}
 use Rattle.lists.specs.Lists.{tab}
 use Rattle.lists.proofs.TabLaw.{get_or-tab}
 use Rattle.element.specs.declared.ElementType.{ElementType}
@@ -40,14 +37,6 @@ pub slice_index_lem : (start limit strides from to i : List ℕ) → SliceHolds 
 slice_index_lem start limit strides from to i ok o = index-of-tab from (slice_index start strides (at i)) (slice-below start limit strides from to i ok o.within)
 
 -- ---- a start read in its type, and clamped
-
-pub clamp-negative : (z : ℤ) (limit : ℕ) → lt_z z (pos 0) ≡ true → 0 ≡ clamp_start z limit
-clamp-negative (pos v) limit e = absurd (let z : ⊥ = omega (arith, ltb-true v 0 e) in z)
-clamp-negative (negsuc v) limit e = refl
-
-pub clamp-other : (z : ℤ) (limit : ℕ) → lt_z z (pos 0) ≡ false → min (nat_abs z) limit ≡ clamp_start z limit
-clamp-other (pos v) limit e = refl
-clamp-other (negsuc v) limit e = absurd (false≢true (sym e))
 
 pub clamp-le : (z : ℤ) (limit : ℕ) → clamp_start z limit ≤ limit
 clamp-le (pos v) limit = omega arith

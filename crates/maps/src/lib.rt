@@ -1,7 +1,7 @@
 // The ops that move elements: each fills exactly the stretch of its result (01, "Shape by shape").
 #![tactic(auto)]
 
-ghost use Rattle.std.specs.Prelude.{◌≡◌, map, ◌^◌, ◌≤◌, ◌<◌, length, take, pos};
+ghost use Rattle.std.specs.Prelude.{◌≡◌, ℕ, map, ◌^◌, ◌≤◌, ◌<◌, length, take, pos, unwrap_or};
 ghost use Rattle.element.specs.Types.{value_of, wrap_to};
 ghost use Rattle.shape.specs.Index.{at, size, unravel, in_six};
 ghost use Rattle.shape.specs.Dims.{dims_of, Sized, Fills};
@@ -28,6 +28,7 @@ enum Kind {
 
 // An op with its attribute lists: a is permutation, start_indices, dimensions, broadcast_dimensions or edge_padding_low; b is strides or
 // interior_padding; count is the length of a permutation or of dimensions.
+// Kept: one record for the five ops, since the definitions of specs/Kinds read it.
 #[derive(Clone, Copy)]
 struct Map {
     kind: Kind,
@@ -40,10 +41,7 @@ struct Map {
 fn at_or_zero(list: [usize; Limits::LIST], p: usize) -> usize
     ensures { result ≡ at list p }
 {
-    if p < Limits::LIST {
-        return list[p];
-    }
-    0
+    list.get(p).copied().unwrap_or(0)
 }
 
 fn reverse_coordinate(
@@ -56,62 +54,53 @@ fn reverse_coordinate(
     requires { (count ≤ 6) × (x < n) }
     ensures { result ≡ reverse_coord (take count dimensions) n x d }
 {
-    if shape::place_in(dimensions, count, d) < count {
-        return n - x - 1;
+    if shape::place_in(dimensions, count, d).is_some() {
+        n - x - 1
+    } else {
+        x
     }
-    x
 }
 
 fn broadcast_coordinate(n: usize, x: usize) -> usize
     ensures { result ≡ broadcast_coord n x }
 {
-    if n == 1 {
-        return 0;
-    }
-    x
+    if n == 1 { 0 } else { x }
 }
 
-// The operand's coordinate at t above the low edge; n where there is none.
-fn pad_step(interior: usize, n: usize, t: usize) -> usize
+// The operand's coordinate at t above the low edge.
+fn pad_step(interior: usize, t: usize) -> Option<usize>
     requires { interior < 2 ^ 63 }
-    ensures { result ≡ pad_step interior n (pos t) }
+    ensures { (n : ℕ) → unwrap_or result n ≡ pad_step interior n (pos t) }
 {
     let q = interior + 1;
-    if t % q == 0 {
-        return t / q;
-    }
-    n
+    if t % q == 0 { Some(t / q) } else { None }
 }
 
-fn pad_coordinate(low: usize, interior: usize, n: usize, x: usize) -> usize
+// The operand's coordinate for the result's coordinate x.
+fn pad_coordinate(low: usize, interior: usize, x: usize) -> Option<usize>
     requires { (x < 2 ^ 63) × (interior < 2 ^ 63) }
-    ensures { result ≡ pad_coord (number_of low) interior n x }
+    ensures { (n : ℕ) → unwrap_or result n ≡ pad_coord (number_of low) interior n x }
 {
-    if low < 9223372036854775808 {
-        if x < low {
-            return n;
-        }
-        return pad_step(interior, n, x - low);
+    if low < 0x8000_0000_0000_0000 {
+        pad_step(interior, x.checked_sub(low)?)
+    } else {
+        pad_step(interior, x + low.wrapping_neg())
     }
-    let down = 18446744073709551615 - low + 1;
-    pad_step(interior, n, x + down)
 }
 
-// The coordinate of the operand's index in dimension d, of size n.
+// The coordinate of the operand's index in dimension d, of size n; n where the operand has none.
 fn coordinate(m: Map, n: usize, index: [usize; Limits::RANK], d: usize) -> usize
     requires { (m.count ≤ 6) × (d < 6) × Computes m n (at index) d }
     ensures { result ≡ coord_of m n (at index) d }
 {
-    let kind = m.kind;
-    let count = m.count;
-    let a = m.a;
-    let b = m.b;
-    match kind {
-        Kind::Transpose => at_or_zero(index, shape::place_in(a, count, d)),
-        Kind::Slice => a[d] + index[d] * b[d],
-        Kind::Reverse => reverse_coordinate(a, count, n, index[d], d),
-        Kind::Broadcast => broadcast_coordinate(n, at_or_zero(index, a[d])),
-        Kind::Pad => pad_coordinate(a[d], b[d], n, index[d]),
+    match m.kind {
+        Kind::Transpose => {
+            at_or_zero(index, shape::place_in(m.a, m.count, d).unwrap_or(m.count))
+        }
+        Kind::Slice => m.a[d] + index[d] * m.b[d],
+        Kind::Reverse => reverse_coordinate(m.a, m.count, n, index[d], d),
+        Kind::Broadcast => broadcast_coordinate(n, at_or_zero(index, m.a[d])),
+        Kind::Pad => pad_coordinate(m.a[d], m.b[d], index[d]).unwrap_or(n),
     }
 }
 
@@ -120,11 +109,9 @@ fn operand_index(m: Map, from: Shape, index: [usize; Limits::RANK]) -> [usize; L
     requires { (m.count ≤ 6) × (from.rank ≤ 6) × MapReady m (dims_of from) (at index) }
     ensures { result ≡ in_six (operand_index m (dims_of from) (at index)) }
 {
-    let rank = from.rank;
-    let dims = from.dims;
-    let mut operand = [0usize; Limits::RANK];
-    for d in 0..rank {
-        operand[d] = coordinate(m, dims[d], index, d);
+    let mut operand = [0; Limits::RANK];
+    for d in 0..from.rank {
+        operand[d] = coordinate(m, from.dims[d], index, d);
     }
     operand
 }
@@ -143,8 +130,7 @@ fn map_into(m: Map, x: &[u64], from: Shape, to: Shape, z: u64, out: &mut [u64])
     requires { Fed m from to x.now × Fills out.old to }
     ensures { out.new ≡ mapped m (dims_of from) (dims_of to) x.now z }
 {
-    let slots = out.len();
-    for k in 0..slots {
+    for k in 0..out.len() {
         out[k] = map_element(m, x, from, to, z, k);
     }
 }
@@ -159,12 +145,11 @@ pub fn transpose(
     requires { Stretches from to x.now out.old × TransposeHolds (take from.rank permutation) (dims_of from) (dims_of to) }
     ensures { out.new ≡ transposed (take from.rank permutation) (dims_of from) (dims_of to) x.now }
 {
-    let rank = from.rank;
     let m = Map {
         kind: Kind::Transpose,
-        count: rank,
+        count: from.rank,
         a: permutation,
-        b: [0usize; Limits::LIST],
+        b: [0; Limits::LIST],
     };
     map_into(m, x, from, to, 0, out);
 }
@@ -204,9 +189,9 @@ pub fn reverse(
 {
     let m = Map {
         kind: Kind::Reverse,
-        count: count,
+        count,
         a: dimensions,
-        b: [0usize; Limits::LIST],
+        b: [0; Limits::LIST],
     };
     map_into(m, x, s, s, 0, out);
 }
@@ -225,7 +210,7 @@ pub fn broadcast_in_dim(
         kind: Kind::Broadcast,
         count: 0,
         a: dimensions,
-        b: [0usize; Limits::LIST],
+        b: [0; Limits::LIST],
     };
     map_into(m, x, from, to, 0, out);
 }
@@ -257,13 +242,10 @@ fn clamp_start(t: ElementType, start: u64, limit: usize) -> usize
     ensures { result ≡ clamp_start (value_of t start) limit }
 {
     if element::is_negative(t, start) {
-        return 0;
+        0
+    } else {
+        limit.min(element::magnitude(t, start) as usize)
     }
-    let v = element::magnitude(t, start) as usize;
-    if v < limit {
-        return v;
-    }
-    limit
 }
 
 fn adjusted_starts(
@@ -275,12 +257,9 @@ fn adjusted_starts(
     requires { (from.rank ≤ 6) × DynamicSliceHolds (dims_of from) (dims_of to) }
     ensures { result ≡ in_six (tab (length (dims_of from)) (adjusted_start t starts (dims_of from) (dims_of to))) }
 {
-    let rank = from.rank;
-    let large = from.dims;
-    let small = to.dims;
-    let mut adjusted = [0usize; Limits::RANK];
-    for d in 0..rank {
-        adjusted[d] = clamp_start(t, starts[d], large[d] - small[d]);
+    let mut adjusted = [0; Limits::RANK];
+    for d in 0..from.rank {
+        adjusted[d] = clamp_start(t, starts[d], from.dims[d] - to.dims[d]);
     }
     adjusted
 }
@@ -302,7 +281,7 @@ pub fn dynamic_slice(
         kind: Kind::Slice,
         count: 0,
         a: adjusted,
-        b: [1usize; Limits::LIST],
+        b: [1; Limits::LIST],
     };
     map_into(m, x, from, to, 0, out);
 }
@@ -311,10 +290,7 @@ pub fn reshape(x: &[u64], from: Shape, to: Shape, out: &mut [u64])
     requires { Stretches from to x.now out.old × ReshapeHolds (dims_of from) (dims_of to) }
     ensures { out.new ≡ reshaped (dims_of from) (dims_of to) x.now }
 {
-    let n = out.len();
-    for k in 0..n {
-        out[k] = x[k];
-    }
+    out.copy_from_slice(x);
 }
 
 // Element k of iota: its coordinate along the dimension, taken into the type's range.
@@ -323,16 +299,14 @@ fn iota_element(t: ElementType, dimension: usize, to: Shape, k: usize) -> u64
     ensures { result ≡ wrap_to t (pos (at (unravel (dims_of to) k) dimension)) }
 {
     let i = shape::index_at(to, k);
-    let coordinate = i[dimension] as u64;
-    element::fit(t, coordinate)
+    element::fit(t, i[dimension] as u64)
 }
 
 pub fn iota(t: ElementType, dimension: usize, to: Shape, out: &mut [u64])
     requires { Sized to × Fills out.old to × IotaHolds dimension (dims_of to) }
     ensures { out.new ≡ counted t dimension (dims_of to) }
 {
-    let n = out.len();
-    for k in 0..n {
+    for k in 0..out.len() {
         out[k] = iota_element(t, dimension, to, k);
     }
 }
@@ -342,12 +316,7 @@ fn size_along(s: Shape, d: usize) -> usize
     requires { s.rank ≤ 6 }
     ensures { result ≡ at (dims_of s) d }
 {
-    let rank = s.rank;
-    let dims = s.dims;
-    if d < rank {
-        return dims[d];
-    }
-    0
+    if d < s.rank { s.dims[d] } else { 0 }
 }
 
 // The element of a concatenation at an index of the result.
@@ -373,7 +342,7 @@ fn concat_element(
             i[dimension] = t;
             return shape::element_at(&x[p..e], s, i, 0);
         }
-        t = t - w;
+        t -= w;
     }
     0
 }
@@ -408,8 +377,7 @@ pub fn concatenate(
     requires { Sized to × Fills out.old to × InputsLaid x.now shapes places count × ConcatenateHolds dimension (shapes_of shapes count) (dims_of to) }
     ensures { out.new ≡ concatenated dimension (shapes_of shapes count) (inputs_in x.now shapes places count) (dims_of to) }
 {
-    let n = out.len();
-    for k in 0..n {
+    for k in 0..out.len() {
         out[k] = concat_at(x, dimension, shapes, places, count, to, k);
     }
 }

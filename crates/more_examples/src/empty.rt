@@ -1,15 +1,15 @@
 // Tensors without elements. A shape is its rank and its sizes, zeros behind them.
 ghost use Rattle.std.specs.Prelude.{◌≡◌, length};
 
-use crate::given;
+use crate::given::given;
 use element::ElementType;
 use scalar::{Body, Unary};
 use shape::Shape;
 
 // reduce: no elements in a row of 2x0, the start comes out twice
 fn rows_of_none(rt: &impl Print) {
-    let x = given::none(rt);
-    let start = given::one(rt, 5);
+    let x = given::<0>(rt, []);
+    let start = given(rt, [5]);
     let mut out = [0u64; 2];
     shown_shapes::reduce(
         rt,
@@ -34,8 +34,8 @@ fn rows_of_none(rt: &impl Print) {
 
 // reduce: no elements at all, the start comes out once
 fn whole_of_none(rt: &impl Print) {
-    let x = given::none(rt);
-    let start = given::one(rt, 18446744073709551488);
+    let x = given::<0>(rt, []);
+    let start = given(rt, [18446744073709551488]);
     let mut out = [0u64; 1];
     shown_shapes::reduce(
         rt,
@@ -91,7 +91,7 @@ fn moved_none(rt: &impl Print, x: &[u64])
 fn columns_of_none(rt: &impl Print, x: &[u64])
     requires { length x.now ≡ 0 }
 {
-    let start = given::one(rt, 5);
+    let start = given(rt, [5]);
     let mut out = [0u64; 0];
     shown_shapes::reduce(
         rt,
@@ -115,15 +115,15 @@ fn columns_of_none(rt: &impl Print, x: &[u64])
 }
 
 pub fn empty_examples(rt: &impl Print) {
-    let x = given::none(rt);
+    let x = given::<0>(rt, []);
     moved_none(rt, &x);
     columns_of_none(rt, &x);
 }
 
 // pad: 0 + 1 + max(0 - 1, 0) x 3 + 1 of the padding value
 pub fn pad_examples(rt: &impl Print) {
-    let x = given::none(rt);
-    let z = given::one(rt, 9);
+    let x = given::<0>(rt, []);
+    let z = given(rt, [9]);
     let mut out = [0u64; 2];
     shown_shapes::pad(
         rt,

@@ -1,10 +1,10 @@
 // select and clamp with operands of rank 0, whose one element serves every element of the result.
-ghost use Rattle.std.specs.Prelude.{◌≡◌, true, length};
+ghost use Rattle.std.specs.Prelude.{◌≡◌, true, [], ◌∷◌, length, eqb};
 ghost use Rattle.lists.specs.Lists.{tab};
 ghost use Rattle.element.specs.declared.ElementType.TheVariants.{I32};
 ghost use Rattle.elementwise.specs.Elementwise.{SelectSized, ClampSized, select_at, clamp_at};
 
-use crate::given;
+use crate::given::given;
 use element::ElementType;
 use shown::show;
 
@@ -36,38 +36,22 @@ fn clamp(
 
 // select on the operands of 000, pred of rank 0
 fn select_by(rt: &impl Print, flag: u64) {
-    let pred = given::one(rt, flag);
-    let x = given::four(rt, [1u64, 2, 3, 4]);
-    let y = given::four(rt, [5u64, 6, 7, 8]);
+    let pred = given(rt, [flag]);
+    let x = given(rt, [1, 2, 3, 4]);
+    let y = given(rt, [5, 6, 7, 8]);
     let mut out = [0u64; 4];
     select(rt, &pred, &x, &y, &mut out);
 }
 
-// clamp: min and max of rank 0
-fn clamp_both(rt: &impl Print) {
-    let min = given::one(rt, 5);
-    let x = given::three(rt, [3u64, 13, 23]);
-    let max = given::one(rt, 20);
-    let mut out = [0u64; 3];
-    clamp(rt, true, true, &min, &x, &max, &mut out);
-}
-
-// clamp: min of rank 0
-fn clamp_low(rt: &impl Print) {
-    let min = given::one(rt, 5);
-    let x = given::three(rt, [3u64, 13, 23]);
-    let max = given::three(rt, [10u64, 11, 20]);
-    let mut out = [0u64; 3];
-    clamp(rt, true, false, &min, &x, &max, &mut out);
-}
-
-// clamp: max of rank 0
-fn clamp_high(rt: &impl Print) {
-    let min = given::three(rt, [5u64, 10, 15]);
-    let x = given::three(rt, [3u64, 13, 23]);
-    let max = given::one(rt, 12);
-    let mut out = [0u64; 3];
-    clamp(rt, false, true, &min, &x, &max, &mut out);
+// clamp of 3, 13, 23: one element of min or max serves every element
+fn clamp_by<const L: usize, const H: usize>(rt: &impl Print, min: [u64; L], max: [u64; H])
+    requires { ClampSized (eqb L 1) (eqb H 1) 3 min (3 ∷ 13 ∷ 23 ∷ []) max }
+{
+    let min = given(rt, min);
+    let x = given(rt, [3, 13, 23]);
+    let max = given(rt, max);
+    let mut out = [0; 3];
+    clamp(rt, L == 1, H == 1, &min, &x, &max, &mut out);
 }
 
 // select: true and false
@@ -77,7 +61,7 @@ pub fn select_examples(rt: &impl Print) {
 }
 
 pub fn clamp_examples(rt: &impl Print) {
-    clamp_both(rt);
-    clamp_low(rt);
-    clamp_high(rt);
+    clamp_by(rt, [5], [20]);
+    clamp_by(rt, [5], [10, 11, 20]);
+    clamp_by(rt, [5, 10, 15], [12]);
 }

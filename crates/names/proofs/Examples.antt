@@ -19,7 +19,7 @@ use Rattle.grammar.specs.Machine.{cell, step}
 use Rattle.grammar.proofs.TableTest.{both}
 use Rattle.syntax.specs.Kinds.{mark_kind, name_kind, word_kind, quoted_kind, token_kind, kind_of}
 use Rattle.program.specs.Parts.{depth_after}
-use Rattle.scope.specs.declared.NameFault.{NameFault}
+use Rattle.scope.specs.Faults.{NameFault}
 use Rattle.scope.specs.Scope.{name_at, same_at, begins, ends}
 use Rattle.names.specs.Names.{checked_fault, defines_name, is_visible, use_name, define_name, settled, forgotten, on_token, token_checked, names_read, op_names_read, op_names_fault, names_defined, input_names_fault}
 use Rattle.names.specs.InOrder.{own_places, body_readings, names_used, operands_body_result}

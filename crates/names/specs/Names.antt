@@ -6,7 +6,7 @@ use Rattle.lists.specs.Lists.{pick}
 use Rattle.scan.specs.Bytes.{among}
 use Rattle.grammar.specs.Symbols.{InputName, ResultName, OperandName, BodyOpen, ArgumentName, BodyClose, Op}
 use Rattle.syntax.specs.Readings.{Reading, readings_of}
-use Rattle.scope.specs.declared.NameFault.{NameFault}
+use Rattle.scope.specs.Faults.{NameFault}
 use Rattle.scope.specs.Scope.{same_at, ends}
 
 -- a name that is defined, a body that is open, or a result whose op is still being read; of a list of entries the last one stands first

@@ -6,14 +6,14 @@ use Prim.Native.Nat.{ℕ, ◌+◌}
 use lib.Dec.{eqb}
 use lib.ListN.{get_or}
 use Rattle.lists.specs.Lists.{pick, tab}
-use Rattle.judge.specs.declared.Refusal.{Refusal}
+use Rattle.judge.specs.Refusals.{Refusal}
 use Rattle.judge.specs.Judge.{text_refusal}
 use Rattle.program.specs.declared.Program.{Program}
 use Rattle.program.specs.Program.{program_of}
 use Rattle.places.specs.Places.{input_name, place_of}
 use Rattle.values.specs.declared.Values.{Values}
 use Rattle.values.specs.Values.{values_in}
-use Rattle.scope.specs.declared.NameFault.{NameFault}
+use Rattle.scope.specs.Faults.{NameFault}
 use Rattle.known.specs.Known.{known_names}
 use Rattle.reading_laws.proofs.OpsLaw.{few_bytes}
 use Rattle.names.specs.Names.{op_names_fault, input_names_fault}

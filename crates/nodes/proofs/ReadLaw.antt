@@ -15,10 +15,11 @@ use Rattle.lists.proofs.TabLaw.{length-tab, get_or-tab}
 use Rattle.shape.specs.Index.{size}
 use Rattle.shape.specs.Dims.{dims_of}
 use Rattle.elementwise.specs.Elementwise.{Holds}
-use Rattle.optable.specs.Table.{value, iota_dimension, dimension, comparison_direction, DenseKind, Number, Direction, no_attribute, attributes, attribute_names, attribute_kind, choice_kind, ops, row_at, rule_code}
+use Rattle.optable.specs.Table.{value, iota_dimension, dimension, comparison_direction, DenseKind, Number, Direction, no_attribute, attributes, attribute_names, attribute_kind, choice_kind, ops, row_at}
 use Rattle.optable.specs.Find.{same, name_place, slot_in}
 use Rattle.optable.specs.declared.Row.{Row}
 use Rattle.optable.specs.declared.Rule.{Rule}
+use Rattle.optable.specs.declared.Rule.TheVariants as rule
 use Rattle.optable.specs.declared.Rule.TheVariants.{Compare as CompareRule, Concatenate as ConcatenateRule, Constant as ConstantRule, Iota as IotaRule}
 use Rattle.attribute.specs.Attribute.{form_at, choice_at, dense_tokens}
 use Rattle.dense.proofs.LengthLaw.{dense-length, dense-values}
@@ -76,6 +77,26 @@ operation-shaped text op row =
     }
 
 -- ---- the attribute that must stand first
+
+-- a number for each rule, so that two are compared by computation
+unfoldable pub rule_code : Rule → ℕ
+rule_code rule.SameTypes = 0
+rule_code rule.Abs = 1
+rule_code rule.Broadcast = 2
+rule_code rule.Clamp = 3
+rule_code rule.Compare = 4
+rule_code rule.Concatenate = 5
+rule_code rule.Constant = 6
+rule_code rule.Convert = 7
+rule_code rule.DynamicSlice = 8
+rule_code rule.Iota = 9
+rule_code rule.Pad = 10
+rule_code rule.Reduce = 11
+rule_code rule.Reshape = 12
+rule_code rule.Reverse = 13
+rule_code rule.Select = 14
+rule_code rule.Slice = 15
+rule_code rule.Transpose = 16
 
 -- attribute k must stand first in a row of these constraints
 abbrev asks : Rule → ℕ → Row → Bool

@@ -17,8 +17,8 @@ use Rattle.ops.specs.Typed.{NodeGranted}
 use Rattle.optable.specs.Table.{comparison_direction, value, Direction, ops, row_at, choice_kind, direction_at, may_reduce}
 use Rattle.optable.specs.declared.Row.{Row}
 use Rattle.optable.specs.declared.Class.TheVariants as class
-use Rattle.optable.specs.declared.Reducer.{Reducer}
-use Rattle.optable.specs.declared.Reducer.TheVariants.{Not, By}
+use Rattle.std.specs.Prelude.{Option, Some, None}
+use Rattle.scalar.specs.declared.Body.{Body}
 use Rattle.dimrules.specs.Count.{everywhere}
 use Rattle.dimrules.proofs.CountLaw.{holds_at}
 use Rattle.dimrules.specs.Types.{same_type, type_at}
@@ -76,9 +76,9 @@ typed-parts text op row values n e =
 
 -- ---- bodies
 
-body_of : (r : Reducer) → may_reduce r ≡ true → r ≡ By (operation_by r)
-body_of Not e = absurd (false≢true e)
-body_of (By b) e = refl
+body_of : (r : Option Body) → may_reduce r ≡ true → r ≡ Some (operation_by r)
+body_of None e = absurd (false≢true e)
+body_of (Some b) e = refl
 
 -- a body of the form is of an op that may be one
 fits-reducer : (text : List ℕ) (at : ℕ) → body_fits text at ≡ true → is_reducer (body_row text at) ≡ true
@@ -161,7 +161,7 @@ module _ (text : List ℕ) (op : Parts) (values : List Value) (n : ℕ) (typed :
 
   -- the body of a reduce is of an op that may be one
   pub typed-reducer : (row_named_in text op).class ≡ class.Reduce
-      → (row_at (body_row text (place_of op body_open 0))).reducer ≡ By (reducer_at (body_row text (place_of op body_open 0)))
+      → (row_at (body_row text (place_of op body_open 0))).reducer ≡ Some (reducer_at (body_row text (place_of op body_open 0)))
   unfolding op_kind bodies_fit is_reducer reducer_at
   typed-reducer e =
       let at = place_of op body_open 0 in

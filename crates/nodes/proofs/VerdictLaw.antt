@@ -10,7 +10,7 @@ use lib.Dec.{eqb}
 use lib.ListN.{get_or}
 use borrow.Author.Tests.{eqb-true, eqb-false, eq-eqb, ne_eqb}
 use Rattle.lists.specs.Lists.{pick}
-use Rattle.judge.specs.declared.Refusal.{Refusal}
+use Rattle.judge.specs.Refusals.{Refusal}
 use Rattle.opcheck.specs.Judged.{broken_by}
 use Rattle.program.specs.declared.Parts.{Parts}
 use Rattle.program.specs.declared.Program.{Program}
@@ -20,7 +20,7 @@ use Rattle.values.specs.declared.Value.{Value}
 use Rattle.values.specs.declared.Values.{Values}
 use Rattle.values.specs.Values.{ops_of}
 use Rattle.known.specs.Known.{names_fault, inputs_fault}
-use Rattle.typing.specs.declared.Judged.{Judged}
+use Rattle.typing.specs.Typing.{Judged}
 use Rattle.operands.specs.Operands.{operands_typed}
 use Rattle.outputs.specs.Outputs.{returns_header, typed_return, return_judged}
 use Rattle.typing.specs.Typing.{row_named_in, operation_of, results_are, typed_op, op_judged}

@@ -1,6 +1,6 @@
 -- The program of a text as evaluating and free runs take it: each op by its class with its types, attributes and operands, a value by its number.
 -- Assumes nothing.
-use Rattle.std.specs.Prelude.{ℕ, ◌+◌, List, [], get_or}
+use Rattle.std.specs.Prelude.{ℕ, ◌+◌, List, [], get_or, Option, None, Some}
 use Rattle.lists.specs.Lists.{pick, tab}
 use Rattle.run.specs.Run.{RunProgram}
 use Rattle.scalar.specs.declared.Body.{Body}
@@ -9,8 +9,6 @@ use Rattle.shape.specs.Dims.{dims_of}
 use Rattle.elementwise.specs.Elementwise.{Tensor}
 use Rattle.ops.specs.declared.Kind.{Kind}
 use Rattle.ops.specs.Ops.{Node, TensorType as NodeType}
-use Rattle.optable.specs.declared.Reducer.{Reducer}
-use Rattle.optable.specs.declared.Reducer.TheVariants.{Not, By}
 use Rattle.optable.specs.Table.{value, comparison_direction, row_at, direction_at}
 use Rattle.attribute.specs.Attribute.{dense_tokens}
 use Rattle.dense.specs.Dense.{dense_value}
@@ -29,9 +27,9 @@ use Rattle.typing.specs.Typing.{row_named_in, operation_of}
 use Rattle.facts.specs.Facts.{kind_by, node_type, node_for}
 
 -- the operation of a body of an op; of an op that may not be a body's, add: an accepted reduce has no such body (proofs/TypedLaw, `typed-reducer`)
-abbrev pub operation_by : Reducer → Body
-operation_by Not = Add
-operation_by (By b) = b
+abbrev pub operation_by : Option Body → Body
+operation_by None = Add
+operation_by (Some b) = b
 
 unfoldable pub reducer_at : ℕ → Body
 reducer_at row = operation_by (row_at row).reducer

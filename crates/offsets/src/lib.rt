@@ -13,11 +13,7 @@ pub fn value_size(vs: Values, i: usize) -> usize
     requires { (i < 264) × ValuesRead vs }
     ensures { result ≡ size_at vs i }
 {
-    let list = vs.list;
-    let v = list[i];
-    let t = v.ty;
-    let s = t.shape;
-    size_of(s)
+    size_of(vs.list[i].ty.shape)
 }
 
 // The slot at which each value begins.
@@ -25,7 +21,7 @@ pub fn offsets_of(vs: Values) -> [usize; Limits::VALUES]
     requires { ValuesRead vs }
     ensures { result ≡ offsets_of vs }
 {
-    let mut list = [0usize; Limits::VALUES];
+    let mut list = [0; Limits::VALUES];
     let mut at = 0;
     for i in 0..Limits::VALUES {
         let next = at + value_size(vs, i);
@@ -40,10 +36,9 @@ pub fn needed_of(vs: Values) -> usize
     requires { ValuesRead vs }
     ensures { result ≡ needed_of vs }
 {
-    let count = vs.count;
     let mut at = 0;
-    for i in 0..count {
-        at = at + value_size(vs, i);
+    for i in 0..vs.count {
+        at += value_size(vs, i);
     }
     at
 }

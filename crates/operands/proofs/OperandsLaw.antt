@@ -1,18 +1,22 @@
--- The turns of the search for a value, and the number of operands.
+-- The search for a value, and the number of operands.
 -- Assumes nothing.
 use Prim.Native.Nat.{ℕ, zero, suc, ◌+◌, ◌<◌, ◌≤◌}
-use mathlib.Core.Path.{◌≡◌, refl, ◌∙◌}
-use mathlib.Core.Bool.{Bool, true, false, ◌&&◌}
+use mathlib.Core.Path.{◌≡◌, refl, sym, ap, ◌∙◌}
+use mathlib.Core.Bool.{Bool, true, false, not, cond, true≢false}
 use mathlib.Core.List.{List, [], ◌∷◌}
+use native.Mathlib.Nat.{not-suc-le-zero, le_of_suc-le-suc}
 use native.Mathlib.Omega.{arith}
-use lib.ListN.{length, get_or}
-use lib.Dec.{eqb}
-use Rattle.lists.specs.Lists.{tab}
-use Rattle.lists.proofs.TabLaw.{length-tab, get_or-tab}
-use Rattle.lists.proofs.SearchLaw.{Passed, passed_none, passed-next, passed_here, passed-end}
+use lib.ListN.{length, get_or, take}
+use lib.Seq.{length-take-le}
+use lib.Dec.{ltb}
+use borrow.Author.Tests.{ltb-false}
+use Rattle.std.specs.Prelude.{Option, Some, None, unwrap_or}
+use Rattle.std.specs.List.{position, position_or_len}
+use Rattle.lists.specs.Lists.{tab, pick, first_where}
+use Rattle.lists.proofs.TabLaw.{length-tab}
+use Rattle.lists.proofs.SearchLaw.{first-le}
 use Rattle.program.specs.declared.Parts.{Parts}
 use Rattle.scope.specs.Scope.{same_at}
-use Rattle.dimrules.specs.Count.{first_failing, everywhere}
 use Rattle.values.specs.declared.Value.{Value}
 use Rattle.values.specs.Values.{no_value}
 use Rattle.operands.specs.Operands.{value_named, arity_of}
@@ -25,35 +29,39 @@ arity-few op = omega arith
 abbrev pub has_name : List ℕ → List Value → ℕ → ℕ → Bool
 has_name text values a i = same_at text (get_or values i no_value).name a
 
-abbrev pub Sought : List ℕ → List Value → ℕ → ℕ → ℕ → Type 0
-Sought text values n a i = Passed (has_name text values a) (tab n (λ i. i)) i
+-- a search of the first n values for one that passes the test, and a search of their places
+seek : (test : Value → Bool) (xs : List Value) (n : ℕ) (t : ℕ → Bool) (f : ℕ → ℕ) → n ≤ length xs → ((k : ℕ) → t (f k) ≡ test (get_or xs k no_value)) → first_where t (tab n f) ≡ position_or_len test (take n xs)
+unfolding first_where
+seek test xs zero t f l h = refl
+seek test [] (suc n) t f l h = absurd (not-suc-le-zero l)
+seek test (x ∷ xs) (suc n) t f l h = step (t (f 0)) (test x) refl refl (h 0) (seek test xs n t (λ k. f (suc k)) (le_of_suc-le-suc l) (λ k. h (suc k)))
+  where
+    step : (b c : Bool) → t (f 0) ≡ b → test x ≡ c → t (f 0) ≡ test x → first_where t (tab n (λ k. f (suc k))) ≡ position_or_len test (take n xs)
+        → pick (t (f 0)) 0 (suc (first_where t (tab n (λ k. f (suc k))))) ≡ cond (not (test x)) (1 + position_or_len test (take n xs)) 0
+    step true true p q e i = rw (p, q) refl
+    step false false p q e i = rw (p, q) (omega arith)
+    step true false p q e i = absurd (true≢false (sym p ∙ e ∙ q))
+    step false true p q e i = absurd (true≢false (sym q ∙ sym e ∙ p))
 
-module _ (text : List ℕ) (values : List Value) (n a : ℕ) where
-  pub seek-none : Sought text values n a 0
-  seek-none = passed_none (has_name text values a) (tab n (λ i. i))
+module _ (n : ℕ) where
+  settle : (p l : ℕ) (b : Bool) → ltb p l ≡ b → l ≡ n → p ≤ n → unwrap_or (cond b (Some p) None) n ≡ p
+  settle p l true h e m = refl
+  settle p l false h e m = let g = ltb-false p l h in omega arith
 
-  module _ (i : ℕ) (sought : Sought text values n a i) where
-    inside : i < n → i < length (tab n (λ i. i))
-    inside h = rw (length-tab n (λ (i : ℕ). i)) h
+module _ (text : List ℕ) (values : List Value) (n a : ℕ) (most : n ≤ length values) where
+  abbrev test : Value → Bool
+  test v = same_at text v.name a
 
-    pub seek-next : i < n → has_name text values a i ≡ false → Sought text values n a (i + 1)
-    seek-next h e = passed-next (has_name text values a) (tab n (λ i. i)) i (inside h) (rw (get_or-tab n (λ i. i) i 0 h) e) sought
+  same-place : value_named text values n a ≡ position_or_len test (take n values)
+  unfolding value_named
+  same-place = seek test values n (has_name text values a) (λ i. i) most (λ k. refl)
 
-    pub seek-here : i < n → has_name text values a i ≡ true → i ≡ value_named text values n a
-    unfolding value_named
-    seek-here h e = passed_here (has_name text values a) (tab n (λ i. i)) i (inside h) (rw (get_or-tab n (λ i. i) i 0 h) e) sought
+  upto : value_named text values n a ≤ n
+  unfolding value_named
+  upto = omega (arith, first-le (has_name text values a) (tab n (λ i. i)), length-tab n (λ (i : ℕ). i))
 
-    pub seek-end : n ≤ i → i ≤ n → n ≡ value_named text values n a
-    unfolding value_named
-    seek-end h g = let e : n ≡ i = omega arith in e ∙ passed-end (has_name text values a) (tab n (λ i. i)) i (rw (length-tab n (λ (i : ℕ). i)) h) sought
-
--- a test, and that a walk over n places found none that fails
-pub both_first : (a : Bool) (n : ℕ) (t : ℕ → Bool) (u m : ℕ) → u ≡ first_failing n t → m ≡ n → a && eqb u m ≡ a && everywhere n t
-unfolding everywhere
-both_first a n t u m e q = rw (e, q)
-
--- past the end of the list each default has the name at byte 0
-pub name-any : (l : List Value) (i : ℕ) (d e : Value) → d.name ≡ e.name → (get_or l i d).name ≡ (get_or l i e).name
-name-any [] i d e q = q
-name-any (x ∷ xs) zero d e q = refl
-name-any (x ∷ xs) (suc i) d e q = name-any xs i d e q
+  -- the place that `position` finds, n where it finds none
+  pub found : (r : Option ℕ) → r ≡ position test (take n values) → unwrap_or r n ≡ value_named text values n a
+  found r q =
+      let p = position_or_len test (take n values) in
+      ap (λ (o : Option ℕ). unwrap_or o n) q ∙ settle n p (length (take n values)) _ refl (length-take-le n values most) (omega (arith, same-place, upto)) ∙ sym same-place

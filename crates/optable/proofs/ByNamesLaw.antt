@@ -19,8 +19,7 @@ use Rattle.scalar.specs.declared.Body.TheVariants as body
 use Rattle.ops.specs.declared.Move.TheVariants as move
 use Rattle.optable.specs.declared.Class.{Class}
 use Rattle.optable.specs.declared.Class.TheVariants.{Constant, Iota, Elementwise, Pairwise, Quotient, Compare, Convert, Select, Clamp, Moved, Pad, Concatenate, DynamicSlice, Reduce}
-use Rattle.optable.specs.declared.Reducer.{Reducer}
-use Rattle.optable.specs.declared.Reducer.TheVariants.{Not, By}
+use Rattle.std.specs.Prelude.{Option, Some, None}
 use Rattle.optable.specs.declared.Choice.{Choice}
 use Rattle.optable.specs.declared.Choice.TheVariants as choice
 use Rattle.optable.specs.declared.Row.{Row}
@@ -31,48 +30,48 @@ use Rattle.optable.specs.Table.{attributes, attribute_names, choices, choice_nam
 pub record Meant : Type 0 where
   pub name : String
   pub class : Class
-  pub reducer : Reducer
+  pub reducer : Option Body
 
-abbrev means : String → Class → Reducer → Meant
+abbrev means : String → Class → Option Body → Meant
 means n c b = record { name = n; class = c; reducer = b }
 
 -- 01, "Element by element", "Shape by shape" and "Reductions"
 abbrev pub meanings : List Meant
 meanings =
-    means "abs" (Elementwise unary.Abs) Not
-    ∷ means "add" (Pairwise binary.Add) (By body.Add)
-    ∷ means "and" (Pairwise binary.And) (By body.And)
-    ∷ means "broadcast_in_dim" (Moved move.BroadcastInDim) Not
-    ∷ means "clamp" Clamp Not
-    ∷ means "compare" Compare Not
-    ∷ means "concatenate" Concatenate Not
-    ∷ means "constant" Constant Not
-    ∷ means "convert" Convert Not
-    ∷ means "count_leading_zeros" (Elementwise unary.CountLeadingZeros) Not
-    ∷ means "divide" (Quotient Divide) Not
-    ∷ means "dynamic_slice" DynamicSlice Not
-    ∷ means "iota" Iota Not
-    ∷ means "maximum" (Pairwise binary.Maximum) (By body.Maximum)
-    ∷ means "minimum" (Pairwise binary.Minimum) (By body.Minimum)
-    ∷ means "multiply" (Pairwise binary.Multiply) (By body.Multiply)
-    ∷ means "negate" (Elementwise unary.Negate) Not
-    ∷ means "not" (Elementwise unary.Not) Not
-    ∷ means "or" (Pairwise binary.Or) (By body.Or)
-    ∷ means "pad" Pad Not
-    ∷ means "popcnt" (Elementwise unary.Popcnt) Not
-    ∷ means "reduce" Reduce Not
-    ∷ means "remainder" (Quotient Remainder) Not
-    ∷ means "reshape" (Moved move.Reshape) Not
-    ∷ means "reverse" (Moved move.Reverse) Not
-    ∷ means "select" Select Not
-    ∷ means "shift_left" (Pairwise binary.ShiftLeft) Not
-    ∷ means "shift_right_arithmetic" (Pairwise binary.ShiftRightArithmetic) Not
-    ∷ means "shift_right_logical" (Pairwise binary.ShiftRightLogical) Not
-    ∷ means "sign" (Elementwise unary.Sign) Not
-    ∷ means "slice" (Moved move.Slice) Not
-    ∷ means "subtract" (Pairwise binary.Subtract) Not
-    ∷ means "transpose" (Moved move.Transpose) Not
-    ∷ means "xor" (Pairwise binary.Xor) (By body.Xor)
+    means "abs" (Elementwise unary.Abs) None
+    ∷ means "add" (Pairwise binary.Add) (Some body.Add)
+    ∷ means "and" (Pairwise binary.And) (Some body.And)
+    ∷ means "broadcast_in_dim" (Moved move.BroadcastInDim) None
+    ∷ means "clamp" Clamp None
+    ∷ means "compare" Compare None
+    ∷ means "concatenate" Concatenate None
+    ∷ means "constant" Constant None
+    ∷ means "convert" Convert None
+    ∷ means "count_leading_zeros" (Elementwise unary.CountLeadingZeros) None
+    ∷ means "divide" (Quotient Divide) None
+    ∷ means "dynamic_slice" DynamicSlice None
+    ∷ means "iota" Iota None
+    ∷ means "maximum" (Pairwise binary.Maximum) (Some body.Maximum)
+    ∷ means "minimum" (Pairwise binary.Minimum) (Some body.Minimum)
+    ∷ means "multiply" (Pairwise binary.Multiply) (Some body.Multiply)
+    ∷ means "negate" (Elementwise unary.Negate) None
+    ∷ means "not" (Elementwise unary.Not) None
+    ∷ means "or" (Pairwise binary.Or) (Some body.Or)
+    ∷ means "pad" Pad None
+    ∷ means "popcnt" (Elementwise unary.Popcnt) None
+    ∷ means "reduce" Reduce None
+    ∷ means "remainder" (Quotient Remainder) None
+    ∷ means "reshape" (Moved move.Reshape) None
+    ∷ means "reverse" (Moved move.Reverse) None
+    ∷ means "select" Select None
+    ∷ means "shift_left" (Pairwise binary.ShiftLeft) None
+    ∷ means "shift_right_arithmetic" (Pairwise binary.ShiftRightArithmetic) None
+    ∷ means "shift_right_logical" (Pairwise binary.ShiftRightLogical) None
+    ∷ means "sign" (Elementwise unary.Sign) None
+    ∷ means "slice" (Moved move.Slice) None
+    ∷ means "subtract" (Pairwise binary.Subtract) None
+    ∷ means "transpose" (Moved move.Transpose) None
+    ∷ means "xor" (Pairwise binary.Xor) (Some body.Xor)
     ∷ []
 
 -- the table has these names and no other, and the row of each name has its meaning
@@ -96,9 +95,9 @@ binary_for body.Or = binary.Or
 binary_for body.Xor = binary.Xor
 
 -- the class that the operation of a body asks of its op
-abbrev asked : Reducer → Class → Class
-asked Not c = c
-asked (By b) c = Pairwise (binary_for b)
+abbrev asked : Option Body → Class → Class
+asked None c = c
+asked (Some b) c = Pairwise (binary_for b)
 
 class-asked : (i : ℕ) → asked (row_at i).reducer (row_at i).class ≡ (row_at i).class
 unfolding row_at ops
@@ -108,8 +107,8 @@ class-asked i =
     sym (get_or-map (λ (r : Row). asked r.reducer r.class) rows i no_row) ∙ ap (λ (l : List Class). get_or l i Constant) all
     ∙ get_or-map (λ (r : Row). r.class) rows i no_row
 
-pub reducer-class : (i : ℕ) (b : Body) → (row_at i).reducer ≡ By b → (row_at i).class ≡ Pairwise (binary_for b)
-reducer-class i b e = sym (class-asked i) ∙ ap (λ (r : Reducer). asked r (row_at i).class) e
+pub reducer-class : (i : ℕ) (b : Body) → (row_at i).reducer ≡ Some b → (row_at i).class ≡ Pairwise (binary_for b)
+reducer-class i b e = sym (class-asked i) ∙ ap (λ (r : Option Body). asked r (row_at i).class) e
 
 -- the choices by names
 pub choices-by-names :

@@ -1,4 +1,4 @@
--- Laws of same and placeIn: turns of the loops that compare and search, and what they find.
+-- Laws of same and name_place: turns of the loop that searches, and what it finds.
 -- Assumes nothing.
 use mathlib.Core.Path.{◌≡◌, refl, ap, ap₂}
 use mathlib.Core.Bool.{Bool, true, false, ◌&&◌, false≢true}
@@ -8,29 +8,19 @@ use native.Mathlib.Nat.{not-suc-le-zero, le_of_suc-le-suc}
 use native.Mathlib.Numerals.{add-one}
 use lib.Dec.{eqb}
 use lib.ListN.{length, get_or, drop, drop_of_length-le}
+use lib.Pointwise.{pointwise}
 use lib.Seq.{drop-cons}
 use borrow.Author.Tests.{eqb-true}
 use Rattle.lists.specs.Lists.{pick, first_where}
 use Rattle.optable.specs.Find.{same, name_place}
 
-pub same_step : (w p : List ℕ) (k : ℕ) → k < length w → k < length p → same (drop k w) (drop k p) ≡ eqb (get_or w k 0) (get_or p k 0) && same (drop (k + 1) w) (drop (k + 1) p)
+-- the equality of slices
+pub pointwise-same : (w p : List ℕ) → pointwise eqb w p ≡ same w p
 unfolding same
-same_step w p k a b = rw (add-one, drop-cons w k 0 a, drop-cons p k 0 b)
-
-pub same_end : (w p : List ℕ) (k : ℕ) → length w ≤ k → length p ≤ k → same (drop k w) (drop k p) ≡ true
-unfolding same
-same_end w p k a b = rw (drop_of_length-le w a, drop_of_length-le p b)
-
-and-false : (a : Bool) {b : Bool} → b ≡ false → a && b ≡ false
-and-false true e = e
-and-false false e = refl
-
-pub same-lengths : (w p : List ℕ) → (length w ≡ length p → ⊥) → same w p ≡ false
-unfolding same
-same-lengths [] [] h = absurd (h refl)
-same-lengths [] (y ∷ p) h = refl
-same-lengths (x ∷ w) [] h = refl
-same-lengths (x ∷ w) (y ∷ p) h = and-false (eqb x y) (same-lengths w p (λ e. h (ap suc e)))
+pointwise-same [] [] = refl
+pointwise-same [] (y ∷ p) = refl
+pointwise-same (x ∷ w) [] = refl
+pointwise-same (x ∷ w) (y ∷ p) = ap (λ b. eqb x y && b) (pointwise-same w p)
 
 and_left : (a b : Bool) → a && b ≡ true → a ≡ true
 and_left true b e = refl

@@ -1,7 +1,7 @@
--- Turns of the loops that compare bytes with a name and search bytes among the names; the part of a text that is searched.
+-- Turns of the loop that searches bytes among the names; the part of a text that is searched.
 -- Assumes nothing.
 use mathlib.Core.Path.{◌≡◌, refl, sym, ap, ◌∙◌}
-use mathlib.Core.Bool.{Bool, true, false, ◌&&◌}
+use mathlib.Core.Bool.{Bool, true, false}
 use mathlib.Core.List.{List, []}
 use Prim.Native.Nat.{ℕ, suc, ◌+◌, ◌-◌, ◌≤◌, ◌<◌, min}
 use native.Mathlib.Nat.{min-eq_left, min-eq_right}
@@ -9,43 +9,12 @@ use native.Mathlib.Decide.{dec_le}
 use native.Mathlib.Omega.{arith}
 use lib.Dec.{eqb}
 use lib.ListN.{length, get_or, take, drop, length-take, length-drop}
+use lib.Pointwise.{pointwise}
 use lib.Seq.{get_or-take, get_or-drop, take_all}
-use borrow.Author.Tests.{eq-eqb, ne_eqb}
 use Rattle.lists.specs.Lists.{pick}
-use Rattle.optable.specs.declared.Word.{Word}
-use Rattle.optable.specs.Table.{names, table_bytes, word_at}
+use Rattle.optable.specs.Table.{names}
 use Rattle.optable.specs.Find.{same, name_place, stretch}
-use Rattle.optable.proofs.TableLaw.{word-name}
-use Rattle.optable.proofs.SameLaw.{same_step, same_end, same-lengths, place-step, place_end}
-
-module _ (bytes : List ℕ) (at len : ℕ) (fits : at + len ≤ length table_bytes) where
-  word-length : length (take len (drop at table_bytes)) ≡ len
-  word-length = simp (length-take, length-drop) (omega arith)
-
-  word_byte : (k : ℕ) → k < len → get_or (take len (drop at table_bytes)) k 0 ≡ get_or table_bytes (at + k) 0
-  word_byte k h = get_or-take len (drop at table_bytes) k 0 h ∙ get_or-drop at table_bytes k 0
-
-  pub lengths_differ : (length bytes ≡ len → ⊥) → false ≡ same (take len (drop at table_bytes)) bytes
-  lengths_differ h = sym (same-lengths _ bytes (λ e. h (sym e ∙ word-length)))
-
-  module _ (equal : length bytes ≡ len) (k : ℕ)
-      (matched : same (drop k (take len (drop at table_bytes))) (drop k bytes) ≡ same (take len (drop at table_bytes)) bytes) where
-    step : k < len →
-        same (take len (drop at table_bytes)) bytes
-        ≡ eqb (get_or table_bytes (at + k) 0) (get_or bytes k 0) && same (drop (k + 1) (take len (drop at table_bytes))) (drop (k + 1) bytes)
-    step h =
-        sym matched ∙ same_step (take len (drop at table_bytes)) bytes k (rw word-length h) (rw equal h)
-        ∙ ap (λ (x : ℕ). eqb x (get_or bytes k 0) && same (drop (k + 1) (take len (drop at table_bytes))) (drop (k + 1) bytes)) (word_byte k h)
-
-    pub byte-differs : k < len → (x : ℕ) → x ≡ get_or table_bytes (at + k) 0 → (x ≡ get_or bytes k 0 → ⊥) → false ≡ same (take len (drop at table_bytes)) bytes
-    byte-differs h x e d = sym (step h ∙ rw (← e, ne_eqb x (get_or bytes k 0) d) refl)
-
-    pub byte-same : k < len → (x : ℕ) → x ≡ get_or table_bytes (at + k) 0 → x ≡ get_or bytes k 0 →
-        same (drop (k + 1) (take len (drop at table_bytes))) (drop (k + 1) bytes) ≡ same (take len (drop at table_bytes)) bytes
-    byte-same h x e d = sym (step h ∙ rw (← e, eq-eqb x (get_or bytes k 0) d) refl)
-
-    pub bytes_same : len ≤ k → true ≡ same (take len (drop at table_bytes)) bytes
-    bytes_same h = sym (same_end (take len (drop at table_bytes)) bytes k (rw word-length h) (rw equal h)) ∙ matched
+use Rattle.optable.proofs.SameLaw.{pointwise-same, place-step, place_end}
 
 module _ (bytes : List ℕ) (first count : ℕ) (fits : first + count ≤ length names) where
   part_length : length (take count (drop first names)) ≡ count
@@ -55,12 +24,12 @@ module _ (bytes : List ℕ) (first count : ℕ) (fits : first + count ≤ length
   part-name k h = get_or-take count (drop first names) k [] h ∙ get_or-drop first names k []
 
   module _ (k : ℕ) (passed : k + name_place (drop k (take count (drop first names))) bytes ≡ name_place (take count (drop first names)) bytes) where
-    module _ (h : k < count) (w : Word) (e : w ≡ word_at (first + k)) (b : Bool) (q : b ≡ same (take w.len (drop w.at table_bytes)) bytes) where
+    module _ (h : k < count) (n : List ℕ) (e : n ≡ get_or names (first + k) []) (b : Bool) (q : b ≡ pointwise eqb n bytes) where
       here : name_place (drop k (take count (drop first names))) bytes ≡ pick b 0 (suc (name_place (drop (k + 1) (take count (drop first names))) bytes))
       here =
           place-step (take count (drop first names)) bytes k (rw part_length h)
           ∙ ap (λ (t : Bool). pick t 0 (suc (name_place (drop (k + 1) (take count (drop first names))) bytes)))
-          (ap (λ (n : List ℕ). same n bytes) (part-name k h ∙ sym (word-name (first + k) (omega arith)) ∙ ap (λ (x : Word). take x.len (drop x.at table_bytes)) (sym e)) ∙ sym q)
+          (ap (λ (n : List ℕ). same n bytes) (part-name k h ∙ sym e) ∙ sym (q ∙ pointwise-same n bytes))
 
       pub name-here : b ≡ true → k ≡ name_place (take count (drop first names)) bytes
       name-here t = let z : name_place (drop k (take count (drop first names))) bytes ≡ 0 = here ∙ rw t refl in omega arith
@@ -90,12 +59,14 @@ stretch-end text start end = by_order (dec_le end (length text))
         rw (min-eq_right g) (take_all (length text - start) (drop start text) l ∙ sym (take_all (end - start) (drop start text) (omega arith)))
 
 module _ (text : List ℕ) (start end stop : ℕ) (e : stop ≡ min end (length text)) where
-  pub stretch-stop : take (stop - start) (drop start text) ≡ stretch text start end
-  stretch-stop = rw e (stretch-end text start end)
-
   -- and is empty where it starts behind its end
-  pub stretch-none : stop < start → take (stop - stop) (drop stop text) ≡ stretch text start end
-  stretch-none h =
-      let a : stop - stop ≡ 0 = omega arith in
-      let b : 0 ≡ stop - start = omega arith in
-      ap (λ (n : ℕ). take n (drop stop text)) a ∙ ap (λ (n : ℕ). take n (drop start text)) b ∙ stretch-stop
+  pub stretch-stop : take (stop - min start stop) (drop (min start stop) text) ≡ stretch text start end
+  stretch-stop = by_order (dec_le start stop)
+    where
+      by_order : Dec (start ≤ stop) → take (stop - min start stop) (drop (min start stop) text) ≡ stretch text start end
+      by_order (yes h) = rw (min-eq_left h, e) (stretch-end text start end)
+      by_order (no h) =
+          let g : stop ≤ start = omega arith in
+          let a : stop - min start stop ≡ 0 = rw (min-eq_right g) (omega arith) in
+          let b : 0 ≡ min end (length text) - start = omega arith in
+          ap (λ (n : ℕ). take n (drop (min start stop) text)) a ∙ ap (λ (n : ℕ). take n (drop start text)) b ∙ stretch-end text start end

@@ -1,34 +1,23 @@
--- Laws of the tables: how many rows each has, a row of the code's table, what stands past the end, and the bytes at a name's place.
+-- Laws of the tables: how many rows each has, what stands past the end, and the bytes at a name's place.
 -- Assumes nothing.
 use mathlib.Core.Path.{◌≡◌, refl, sym, ap, ◌∙◌}
-use mathlib.Core.Bool.{Bool, true, false}
 use mathlib.Core.List.{List, [], ◌∷◌, ◌++◌, map, append_assoc}
-use Prim.Native.Nat.{ℕ, zero, suc, ◌+◌, ◌≤◌, ◌<◌}
+use Prim.Native.Nat.{ℕ, zero, suc, ◌+◌, ◌-◌, ◌≤◌, ◌<◌}
 use native.Mathlib.Nat.{not-suc-le-zero, le_of_suc-le-suc}
 use native.Mathlib.Omega.{arith}
-use lib.Dec.{eqb}
-use lib.ListN.{length, get_or, take, drop, length-append, get_or-map}
+use lib.ListN.{length, get_or, take, drop, length-append}
 use lib.Seq.{drop-append_seam, take-append_seam, get_or-drop}
 use Rattle.lists.specs.Lists.{first_where, concat}
-use Rattle.optable.specs.declared.Takes.{Takes}
-use Rattle.optable.specs.declared.Rule.{Rule}
-use Rattle.optable.specs.declared.Row.{Row}
-use Rattle.optable.specs.declared.Entry.{Entry}
-use Rattle.optable.specs.declared.Takes.TheVariants.{Any, Integer, Signed, Boolean}
-use Rattle.optable.specs.declared.Rule.TheVariants as rule
-use Rattle.division.specs.declared.Division.TheVariants.{Divide, Remainder}
-use Rattle.scalar.specs.declared.Unary.TheVariants as unary
-use Rattle.scalar.specs.declared.Binary.TheVariants as binary
 use Rattle.scalar.specs.declared.Direction.TheVariants.{Eq}
-use Rattle.scalar.specs.declared.Body.TheVariants as body
-use Rattle.ops.specs.declared.Move.TheVariants as move
-use Rattle.optable.specs.declared.Class.{Class}
-use Rattle.optable.specs.declared.Class.TheVariants.{Constant, Iota, Elementwise, Pairwise, Quotient, Compare, Convert, Select, Clamp, Moved, Pad, Concatenate, DynamicSlice, Reduce}
-use Rattle.optable.specs.declared.Reducer.{Reducer}
-use Rattle.optable.specs.declared.Reducer.TheVariants.{Not, By}
 use Rattle.optable.specs.declared.Choice.TheVariants as choice
+use Rattle.std.proofs.Common.{Bor}
+use Rattle.std.proofs.lemmas.Option.{slice_get_read, slice_get_past}
+use Rattle.std.specs.Prelude.{Option, None, Some, slice_get, option_copied}
+use Rattle.std.specs.Slice.{IsItemAt}
+use Rattle.optable.specs.declared.ValueKind.{ValueKind}
+use Rattle.optable.specs.declared.Word.{Word}
 use Rattle.optable.specs.Names.{same, name_place}
-use Rattle.optable.specs.Table.{OpRow, Named, Chosen, value, comparison_direction, compare_type, choice_named, attribute_kind, choice_form, said_at, direction_said, direction_at, ops, attributes, choice_kinds, choices, op_names, attribute_names, choice_kind_names, choice_names, names, table_bytes, places, no_word, word_at, rows_from, no_row, row_at, takes_code, takes_of, rule_code, rule_of, class_code, class_of, reducer_code, reducer_of, bit, entry_of, entry_at}
+use Rattle.optable.specs.Table.{OpRow, Chosen, value, comparison_direction, compare_type, choice_named, kind_number, no_kind, said_at, direction_said, direction_at, ops, attributes, choice_kinds, choices, op_names, attribute_names, choice_kind_names, choice_names, names, table_bytes, places, no_word, word_at, rows_from, no_row, row_at}
 
 -- ---- how many rows
 
@@ -66,156 +55,7 @@ pub unsigned-place : choice_named "UNSIGNED" ≡ 7
 unfolding choices choice_names name_place first_where same
 unsigned-place = refl
 
--- ---- rows
-
-pub entry_row : (i : ℕ) → entry_at i ≡ entry_of (row_at i)
-unfolding entry_at row_at
-entry_row i = get_or-map entry_of (rows_from 0 ops) i no_row
-
-takes_back : (t : Takes) → takes_of (takes_code t) ≡ t
-unfolding takes_of takes_code
-takes_back Any = refl
-takes_back Integer = refl
-takes_back Signed = refl
-takes_back Boolean = refl
-
-takes-small : (t : Takes) → takes_code t < 4
-unfolding takes_code
-takes-small Any = omega arith
-takes-small Integer = omega arith
-takes-small Signed = omega arith
-takes-small Boolean = omega arith
-
-rule-back : (r : Rule) → rule_of (rule_code r) ≡ r
-unfolding rule_of rule_code
-rule-back rule.SameTypes = refl
-rule-back rule.Abs = refl
-rule-back rule.Broadcast = refl
-rule-back rule.Clamp = refl
-rule-back rule.Compare = refl
-rule-back rule.Concatenate = refl
-rule-back rule.Constant = refl
-rule-back rule.Convert = refl
-rule-back rule.DynamicSlice = refl
-rule-back rule.Iota = refl
-rule-back rule.Pad = refl
-rule-back rule.Reduce = refl
-rule-back rule.Reshape = refl
-rule-back rule.Reverse = refl
-rule-back rule.Select = refl
-rule-back rule.Slice = refl
-rule-back rule.Transpose = refl
-
-rule-small : (r : Rule) → rule_code r < 17
-unfolding rule_code
-rule-small rule.SameTypes = omega arith
-rule-small rule.Abs = omega arith
-rule-small rule.Broadcast = omega arith
-rule-small rule.Clamp = omega arith
-rule-small rule.Compare = omega arith
-rule-small rule.Concatenate = omega arith
-rule-small rule.Constant = omega arith
-rule-small rule.Convert = omega arith
-rule-small rule.DynamicSlice = omega arith
-rule-small rule.Iota = omega arith
-rule-small rule.Pad = omega arith
-rule-small rule.Reduce = omega arith
-rule-small rule.Reshape = omega arith
-rule-small rule.Reverse = omega arith
-rule-small rule.Select = omega arith
-rule-small rule.Slice = omega arith
-rule-small rule.Transpose = omega arith
-
-class_back : (c : Class) → (class_of (class_code c) ≡ c) × (class_code c < 34)
-unfolding class_of class_code
-class_back Constant = (refl, omega arith)
-class_back Iota = (refl, omega arith)
-class_back (Elementwise unary.Negate) = (refl, omega arith)
-class_back (Elementwise unary.Abs) = (refl, omega arith)
-class_back (Elementwise unary.Sign) = (refl, omega arith)
-class_back (Elementwise unary.Not) = (refl, omega arith)
-class_back (Elementwise unary.CountLeadingZeros) = (refl, omega arith)
-class_back (Elementwise unary.Popcnt) = (refl, omega arith)
-class_back (Pairwise binary.Add) = (refl, omega arith)
-class_back (Pairwise binary.Subtract) = (refl, omega arith)
-class_back (Pairwise binary.Multiply) = (refl, omega arith)
-class_back (Pairwise binary.Maximum) = (refl, omega arith)
-class_back (Pairwise binary.Minimum) = (refl, omega arith)
-class_back (Pairwise binary.And) = (refl, omega arith)
-class_back (Pairwise binary.Or) = (refl, omega arith)
-class_back (Pairwise binary.Xor) = (refl, omega arith)
-class_back (Pairwise binary.ShiftLeft) = (refl, omega arith)
-class_back (Pairwise binary.ShiftRightArithmetic) = (refl, omega arith)
-class_back (Pairwise binary.ShiftRightLogical) = (refl, omega arith)
-class_back (Quotient Divide) = (refl, omega arith)
-class_back (Quotient Remainder) = (refl, omega arith)
-class_back Compare = (refl, omega arith)
-class_back Convert = (refl, omega arith)
-class_back Select = (refl, omega arith)
-class_back Clamp = (refl, omega arith)
-class_back (Moved move.Reshape) = (refl, omega arith)
-class_back (Moved move.BroadcastInDim) = (refl, omega arith)
-class_back (Moved move.Transpose) = (refl, omega arith)
-class_back (Moved move.Slice) = (refl, omega arith)
-class_back (Moved move.Reverse) = (refl, omega arith)
-class_back Pad = (refl, omega arith)
-class_back Concatenate = (refl, omega arith)
-class_back DynamicSlice = (refl, omega arith)
-class_back Reduce = (refl, omega arith)
-
-reducer-back : (r : Reducer) → (reducer_of (reducer_code r) ≡ r) × (reducer_code r < 8)
-unfolding reducer_of reducer_code
-reducer-back Not = (refl, omega arith)
-reducer-back (By body.Add) = (refl, omega arith)
-reducer-back (By body.Multiply) = (refl, omega arith)
-reducer-back (By body.Maximum) = (refl, omega arith)
-reducer-back (By body.Minimum) = (refl, omega arith)
-reducer-back (By body.And) = (refl, omega arith)
-reducer-back (By body.Or) = (refl, omega arith)
-reducer-back (By body.Xor) = (refl, omega arith)
-
-bit-back : (b : Bool) → eqb (bit b) 1 ≡ b
-unfolding bit
-bit-back true = refl
-bit-back false = refl
-
-module _ (e : Entry) (i : ℕ) (p : e ≡ entry_at i) where
-  is_row : e ≡ entry_of (row_at i)
-  is_row = p ∙ entry_row i
-
-  pub first_small : e.9 < 4
-  unfolding entry_of
-  first_small = rw is_row (takes-small (row_at i).first)
-
-  pub rest-small : e.10 < 4
-  unfolding entry_of
-  rest-small = rw is_row (takes-small (row_at i).rest)
-
-  pub result-small : e.12 < 4
-  unfolding entry_of
-  result-small = rw is_row (takes-small (row_at i).result)
-
-  pub rule-in : e.13 < 17
-  unfolding entry_of
-  rule-in = rw is_row (rule-small (row_at i).rule)
-
-  pub class-in : e.14 < 34
-  unfolding entry_of
-  class-in = rw is_row (class_back (row_at i).class).1
-
-  pub reducer-in : e.15 < 8
-  unfolding entry_of
-  reducer-in = rw is_row (reducer-back (row_at i).reducer).1
-
-  -- the row that it stands for
-  pub row_back : (f s t : Takes) (u : Rule) (v : Class) (w : Reducer) → f ≡ takes_of e.9 → s ≡ takes_of e.10 → t ≡ takes_of e.12 → u ≡ rule_of e.13
-      → v ≡ class_of e.14 → w ≡ reducer_of e.15
-      → ◌≡◌ {A = Row}
-      (record { at = e.0; len = e.1; least = e.2; most = e.3; needed = e.4; a = e.5; b = e.6; c = e.7; body = eqb e.8 1; first = f; rest = s; scalars = eqb e.11 1; result = t; rule = u; class = v; reducer = w })
-      (row_at i)
-  unfolding entry_of
-  row_back f s t u v w a b c d g h =
-      rw (a, b, c, d, g, h, is_row, takes_back (row_at i).first, takes_back (row_at i).rest, takes_back (row_at i).result, rule-back (row_at i).rule, (class_back (row_at i).class).0, (reducer-back (row_at i).reducer).0, bit-back (row_at i).body, bit-back (row_at i).scalars) refl
+-- ---- what stands past a table's end
 
 get_d_past : {A : Type 0} (l : List A) (i : ℕ) (d : A) → length l ≤ i → get_or l i d ≡ d
 get_d_past [] i d h = refl
@@ -226,13 +66,16 @@ pub row-past : (i : ℕ) → length ops ≤ i → row_at i ≡ no_row
 unfolding row_at ops
 row-past i h = get_d_past (rows_from 0 ops) i no_row h
 
-pub attribute-past : (k : ℕ) → length attributes ≤ k → attribute_kind k ≡ 0
-unfolding attribute_kind attributes
-attribute-past k h = get_d_past (map (λ (a : Named). a.kind) attributes) k 0 h
+-- the kind at a place of a table of the code, and of its numbers
+kind-at : (ks : List ValueKind) (k : ℕ) → kind_number (slice_get ks k) ≡ get_or (map (λ x. kind_number (Some x)) ks) k no_kind
+kind-at [] k = refl
+kind-at (x ∷ ks) zero = refl
+kind-at (x ∷ ks) (suc k) = kind-at ks k
 
-pub form-past : (k : ℕ) → length choice_kinds ≤ k → choice_form k ≡ 0
-unfolding choice_form choice_kinds
-form-past k h = get_d_past (map (λ (a : Named). a.kind) choice_kinds) k 0 h
+pub kind-read : (ks : List ValueKind) (k : ℕ) (r : Option (Bor ValueKind)) → IsItemAt ks k r →
+    kind_number (option_copied r) ≡ get_or (map (λ x. kind_number (Some x)) ks) k no_kind
+kind-read ks k None h = ap kind_number (sym (slice_get_past ks k h.3)) ∙ kind-at ks k
+kind-read ks k (Some x) h = ap kind_number (sym (slice_get_read ks _ k x.now refl h.3.0 h.1)) ∙ kind-at ks k
 
 pub direction-past : (k : ℕ) → length choices ≤ k → direction_at k ≡ Eq
 unfolding direction_at said_at choices
@@ -280,6 +123,11 @@ names-length = refl
 pub word-name : (i : ℕ) → i < length names → take (word_at i).len (drop (word_at i).at table_bytes) ≡ get_or names i []
 unfolding word_at table_bytes
 word-name i h = place-holds [] names i h
+
+pub name-part : (w : Word) (i : ℕ) → w ≡ word_at i → i < length names → take (w.at + w.len - w.at) (drop w.at table_bytes) ≡ get_or names i []
+name-part w i e h =
+    let len : w.at + w.len - w.at ≡ w.len = omega arith in
+    ap (λ n. take n (drop w.at table_bytes)) len ∙ ap (λ (v : Word). take v.len (drop v.at table_bytes)) e ∙ word-name i h
 
 pub word-within : (i : ℕ) → i < length names → (word_at i).at + (word_at i).len ≤ length table_bytes
 unfolding word_at table_bytes

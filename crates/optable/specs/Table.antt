@@ -2,7 +2,7 @@
 -- constraints (refusal 8) go by, from the op's Inputs, Outputs and Constraints in 000; its class for evaluation ("Element by element", "Shape by
 -- shape"); and whether it may be the op of a reduction's body ("Reductions").
 -- Assumes nothing.
-use Rattle.std.specs.Prelude.{ℕ, ◌+◌, List, [], ◌∷◌, ◌++◌, map, Bool, true, false, length, get_or, ltb}
+use Rattle.std.specs.Prelude.{ℕ, ◌+◌, List, [], ◌∷◌, ◌++◌, map, Bool, true, false, length, get_or, ltb, Option, Some, None}
 use Prim.Native.String.{String}
 use Rattle.lists.specs.Lists.{pick, concat}
 use Rattle.division.specs.declared.Division.TheVariants.{Divide, Remainder}
@@ -10,6 +10,7 @@ use Rattle.scalar.specs.declared.Unary.TheVariants as unary
 use Rattle.scalar.specs.declared.Binary.TheVariants as binary
 use Rattle.scalar.specs.declared.Direction.{Direction as CompareDirection}
 use Rattle.scalar.specs.declared.Direction.TheVariants.{Eq, Ne, Ge, Gt, Le, Lt}
+use Rattle.scalar.specs.declared.Body.{Body}
 use Rattle.scalar.specs.declared.Body.TheVariants as body
 use Rattle.ops.specs.declared.Move.TheVariants as move
 use Rattle.optable.specs.declared.Takes.{Takes}
@@ -18,12 +19,11 @@ use Rattle.optable.specs.declared.Rule.{Rule}
 use Rattle.optable.specs.declared.Rule.TheVariants as rule
 use Rattle.optable.specs.declared.Class.{Class}
 use Rattle.optable.specs.declared.Class.TheVariants.{Constant, Iota, Elementwise, Pairwise, Quotient, Compare, Convert, Select, Clamp, Moved, Pad, Concatenate, DynamicSlice, Reduce}
-use Rattle.optable.specs.declared.Reducer.{Reducer}
-use Rattle.optable.specs.declared.Reducer.TheVariants.{Not, By}
+use Rattle.optable.specs.declared.ValueKind.{ValueKind}
+use Rattle.optable.specs.declared.ValueKind.TheVariants as kind
 use Rattle.optable.specs.declared.Choice.{Choice}
 use Rattle.optable.specs.declared.Choice.TheVariants as choice
 use Rattle.optable.specs.declared.Row.{Row}
-use Rattle.optable.specs.declared.Entry.{Entry}
 use Rattle.optable.specs.declared.Word.{Word}
 use Rattle.optable.specs.Names.{name_place}
 use Rattle.scan.specs.Ascii.{ascii}
@@ -50,6 +50,15 @@ CompareType = 5
 -- what stands past the end of a table of kinds
 abbrev pub no_kind : ℕ
 no_kind = 0
+
+-- the number of a kind of the code
+abbrev pub kind_number : Option ValueKind → ℕ
+kind_number None = no_kind
+kind_number (Some kind.Numbers) = NumbersKind
+kind_number (Some kind.Number) = Number
+kind_number (Some kind.Dense) = DenseKind
+kind_number (Some kind.Direction) = Direction
+kind_number (Some kind.CompareType) = CompareType
 
 -- a name and the kind that goes with it
 pub record Named : Type 0 where
@@ -203,66 +212,66 @@ pub record OpRow : Type 0 where
   pub result : Takes
   pub rule : Rule
   pub class : Class
-  pub reducer : Reducer
+  pub reducer : Option Body
 
 abbrev pub quoted : String → List ℕ
 quoted n = ascii "\"stablehlo." ++ ascii n ++ ascii "\""
 
 -- k operands and the result from one class, of one type: C1 is type(operands) = type(result)
-abbrev alike : String → ℕ → Takes → Class → Reducer → OpRow
+abbrev alike : String → ℕ → Takes → Class → Option Body → OpRow
 alike n k t c b =
     record { name = quoted n; least = k; most = k; required = []; optional = []; body = false; first = t; rest = t; scalars = false; result = t; rule = rule.SameTypes; class = c; reducer = b }
 
 -- k operands of any type, the attributes that must stand, and constraints of its own
 abbrev shaped : String → ℕ → List ℕ → Rule → Class → OpRow
 shaped n k attrs r c =
-    record { name = quoted n; least = k; most = k; required = attrs; optional = []; body = false; first = Any; rest = Any; scalars = false; result = Any; rule = r; class = c; reducer = Not }
+    record { name = quoted n; least = k; most = k; required = attrs; optional = []; body = false; first = Any; rest = Any; scalars = false; result = Any; rule = r; class = c; reducer = None }
 
 -- "one op of add, multiply, maximum, minimum, and, or, xor" may be a reduction's body
 unfoldable pub ops : List OpRow
 ops =
     -- "tensor of signed integer, .. type"; C1 and C2 are one rule in two parts
-    record { name = quoted "abs"; least = 1; most = 1; required = []; optional = []; body = false; first = Signed; rest = Signed; scalars = false; result = Signed; rule = rule.Abs; class = Elementwise unary.Abs; reducer = Not }
-    ∷ alike "add" 2 Any (Pairwise binary.Add) (By body.Add)
-    ∷ alike "and" 2 Any (Pairwise binary.And) (By body.And)
+    record { name = quoted "abs"; least = 1; most = 1; required = []; optional = []; body = false; first = Signed; rest = Signed; scalars = false; result = Signed; rule = rule.Abs; class = Elementwise unary.Abs; reducer = None }
+    ∷ alike "add" 2 Any (Pairwise binary.Add) (Some body.Add)
+    ∷ alike "and" 2 Any (Pairwise binary.And) (Some body.And)
     ∷ shaped "broadcast_in_dim" 1 (broadcast_dimensions ∷ []) rule.Broadcast (Moved move.BroadcastInDim)
     ∷ shaped "clamp" 3 [] rule.Clamp Clamp
     -- result: "tensor of boolean type"; "`compare_type` of compare may be absent"
-    ∷ record { name = quoted "compare"; least = 2; most = 2; required = comparison_direction ∷ []; optional = compare_type ∷ []; body = false; first = Any; rest = Any; scalars = false; result = Boolean; rule = rule.Compare; class = Compare; reducer = Not }
+    ∷ record { name = quoted "compare"; least = 2; most = 2; required = comparison_direction ∷ []; optional = compare_type ∷ []; body = false; first = Any; rest = Any; scalars = false; result = Boolean; rule = rule.Compare; class = Compare; reducer = None }
     -- "concatenate: any, none breaks C3"; at most 8 by size 5
-    ∷ record { name = quoted "concatenate"; least = 0; most = 8; required = dimension ∷ []; optional = []; body = false; first = Any; rest = Any; scalars = false; result = Any; rule = rule.Concatenate; class = Concatenate; reducer = Not }
+    ∷ record { name = quoted "concatenate"; least = 0; most = 8; required = dimension ∷ []; optional = []; body = false; first = Any; rest = Any; scalars = false; result = Any; rule = rule.Concatenate; class = Concatenate; reducer = None }
     ∷ shaped "constant" 0 (value ∷ []) rule.Constant Constant
     ∷ shaped "convert" 1 [] rule.Convert Convert
-    ∷ alike "count_leading_zeros" 1 Integer (Elementwise unary.CountLeadingZeros) Not
-    ∷ alike "divide" 2 Integer (Quotient Divide) Not
+    ∷ alike "count_leading_zeros" 1 Integer (Elementwise unary.CountLeadingZeros) None
+    ∷ alike "divide" 2 Integer (Quotient Divide) None
     -- "dynamic_slice: from 1"; start_indices: "variadic number of 0-dimensional tensors of integer type"
-    ∷ record { name = quoted "dynamic_slice"; least = 1; most = 8; required = slice_sizes ∷ []; optional = []; body = false; first = Any; rest = Integer; scalars = true; result = Any; rule = rule.DynamicSlice; class = DynamicSlice; reducer = Not }
+    ∷ record { name = quoted "dynamic_slice"; least = 1; most = 8; required = slice_sizes ∷ []; optional = []; body = false; first = Any; rest = Integer; scalars = true; result = Any; rule = rule.DynamicSlice; class = DynamicSlice; reducer = None }
     -- output: "tensor of integer, .. type"
-    ∷ record { name = quoted "iota"; least = 0; most = 0; required = iota_dimension ∷ []; optional = []; body = false; first = Any; rest = Any; scalars = false; result = Integer; rule = rule.Iota; class = Iota; reducer = Not }
-    ∷ alike "maximum" 2 Any (Pairwise binary.Maximum) (By body.Maximum)
-    ∷ alike "minimum" 2 Any (Pairwise binary.Minimum) (By body.Minimum)
-    ∷ alike "multiply" 2 Any (Pairwise binary.Multiply) (By body.Multiply)
-    ∷ alike "negate" 1 Integer (Elementwise unary.Negate) Not
-    ∷ alike "not" 1 Any (Elementwise unary.Not) Not
-    ∷ alike "or" 2 Any (Pairwise binary.Or) (By body.Or)
+    ∷ record { name = quoted "iota"; least = 0; most = 0; required = iota_dimension ∷ []; optional = []; body = false; first = Any; rest = Any; scalars = false; result = Integer; rule = rule.Iota; class = Iota; reducer = None }
+    ∷ alike "maximum" 2 Any (Pairwise binary.Maximum) (Some body.Maximum)
+    ∷ alike "minimum" 2 Any (Pairwise binary.Minimum) (Some body.Minimum)
+    ∷ alike "multiply" 2 Any (Pairwise binary.Multiply) (Some body.Multiply)
+    ∷ alike "negate" 1 Integer (Elementwise unary.Negate) None
+    ∷ alike "not" 1 Any (Elementwise unary.Not) None
+    ∷ alike "or" 2 Any (Pairwise binary.Or) (Some body.Or)
     -- padding_value: "0-dimensional tensor"
-    ∷ record { name = quoted "pad"; least = 2; most = 2; required = edge_padding_low ∷ edge_padding_high ∷ interior_padding ∷ []; optional = []; body = false; first = Any; rest = Any; scalars = true; result = Any; rule = rule.Pad; class = Pad; reducer = Not }
-    ∷ alike "popcnt" 1 Integer (Elementwise unary.Popcnt) Not
+    ∷ record { name = quoted "pad"; least = 2; most = 2; required = edge_padding_low ∷ edge_padding_high ∷ interior_padding ∷ []; optional = []; body = false; first = Any; rest = Any; scalars = true; result = Any; rule = rule.Pad; class = Pad; reducer = None }
+    ∷ alike "popcnt" 1 Integer (Elementwise unary.Popcnt) None
     -- one input and one start, init_values: "0-dimensional tensors"
-    ∷ record { name = quoted "reduce"; least = 2; most = 2; required = dimensions ∷ []; optional = []; body = true; first = Any; rest = Any; scalars = true; result = Any; rule = rule.Reduce; class = Reduce; reducer = Not }
-    ∷ alike "remainder" 2 Integer (Quotient Remainder) Not
+    ∷ record { name = quoted "reduce"; least = 2; most = 2; required = dimensions ∷ []; optional = []; body = true; first = Any; rest = Any; scalars = true; result = Any; rule = rule.Reduce; class = Reduce; reducer = None }
+    ∷ alike "remainder" 2 Integer (Quotient Remainder) None
     ∷ shaped "reshape" 1 [] rule.Reshape (Moved move.Reshape)
     ∷ shaped "reverse" 1 (dimensions ∷ []) rule.Reverse (Moved move.Reverse)
     -- pred: "tensor of type `i1`"
-    ∷ record { name = quoted "select"; least = 3; most = 3; required = []; optional = []; body = false; first = Boolean; rest = Any; scalars = false; result = Any; rule = rule.Select; class = Select; reducer = Not }
-    ∷ alike "shift_left" 2 Integer (Pairwise binary.ShiftLeft) Not
-    ∷ alike "shift_right_arithmetic" 2 Integer (Pairwise binary.ShiftRightArithmetic) Not
-    ∷ alike "shift_right_logical" 2 Integer (Pairwise binary.ShiftRightLogical) Not
-    ∷ alike "sign" 1 Signed (Elementwise unary.Sign) Not
+    ∷ record { name = quoted "select"; least = 3; most = 3; required = []; optional = []; body = false; first = Boolean; rest = Any; scalars = false; result = Any; rule = rule.Select; class = Select; reducer = None }
+    ∷ alike "shift_left" 2 Integer (Pairwise binary.ShiftLeft) None
+    ∷ alike "shift_right_arithmetic" 2 Integer (Pairwise binary.ShiftRightArithmetic) None
+    ∷ alike "shift_right_logical" 2 Integer (Pairwise binary.ShiftRightLogical) None
+    ∷ alike "sign" 1 Signed (Elementwise unary.Sign) None
     ∷ shaped "slice" 1 (start_indices ∷ limit_indices ∷ strides ∷ []) rule.Slice (Moved move.Slice)
-    ∷ alike "subtract" 2 Integer (Pairwise binary.Subtract) Not
+    ∷ alike "subtract" 2 Integer (Pairwise binary.Subtract) None
     ∷ shaped "transpose" 1 (permutation ∷ []) rule.Transpose (Moved move.Transpose)
-    ∷ alike "xor" 2 Any (Pairwise binary.Xor) (By body.Xor)
+    ∷ alike "xor" 2 Any (Pairwise binary.Xor) (Some body.Xor)
     ∷ []
 
 -- an op goes by its place among them
@@ -273,9 +282,9 @@ abbrev pub op_named : String → ℕ
 op_named n = name_place op_names (quoted n)
 
 -- an op that may be the op of a reduction's body
-abbrev pub may_reduce : Reducer → Bool
-may_reduce Not = false
-may_reduce (By b) = true
+abbrev pub may_reduce : Option Body → Bool
+may_reduce None = false
+may_reduce (Some b) = true
 
 -- ---- the tables as the code holds them
 
@@ -310,110 +319,10 @@ rows_from at (o ∷ os) = row_of at o ∷ rows_from (at + length o.name) os
 
 -- what stands past the table's end
 abbrev pub no_row : Row
-no_row = record { at = 0; len = 0; least = 0; most = 0; needed = 0; a = 0; b = 0; c = 0; body = false; first = Any; rest = Any; scalars = false; result = Any; rule = rule.SameTypes; class = Constant; reducer = Not }
+no_row = record { at = 0; len = 0; least = 0; most = 0; needed = 0; a = 0; b = 0; c = 0; body = false; first = Any; rest = Any; scalars = false; result = Any; rule = rule.SameTypes; class = Constant; reducer = None }
 
 unfoldable pub row_at : ℕ → Row
 row_at i = get_or (rows_from 0 ops) i no_row
-
--- a row as the code's table has it, in numbers: 0 and 1 for false and true, the place of a variant for Takes, Rule, Class and Reducer
-unfoldable pub takes_code : Takes → ℕ
-takes_code Any = 0
-takes_code Integer = 1
-takes_code Signed = 2
-takes_code Boolean = 3
-
-unfoldable pub takes_of : ℕ → Takes
-takes_of n = get_or (Any ∷ Integer ∷ Signed ∷ Boolean ∷ []) n Any
-
-unfoldable pub rule_code : Rule → ℕ
-rule_code rule.SameTypes = 0
-rule_code rule.Abs = 1
-rule_code rule.Broadcast = 2
-rule_code rule.Clamp = 3
-rule_code rule.Compare = 4
-rule_code rule.Concatenate = 5
-rule_code rule.Constant = 6
-rule_code rule.Convert = 7
-rule_code rule.DynamicSlice = 8
-rule_code rule.Iota = 9
-rule_code rule.Pad = 10
-rule_code rule.Reduce = 11
-rule_code rule.Reshape = 12
-rule_code rule.Reverse = 13
-rule_code rule.Select = 14
-rule_code rule.Slice = 15
-rule_code rule.Transpose = 16
-
-unfoldable pub rule_of : ℕ → Rule
-rule_of n =
-    get_or
-    (rule.SameTypes ∷ rule.Abs ∷ rule.Broadcast ∷ rule.Clamp ∷ rule.Compare ∷ rule.Concatenate ∷ rule.Constant ∷ rule.Convert ∷ rule.DynamicSlice ∷ rule.Iota ∷ rule.Pad ∷ rule.Reduce ∷ rule.Reshape ∷ rule.Reverse ∷ rule.Select ∷ rule.Slice ∷ rule.Transpose ∷ [])
-    n rule.SameTypes
-
-unfoldable pub class_code : Class → ℕ
-class_code Constant = 0
-class_code Iota = 1
-class_code (Elementwise unary.Negate) = 2
-class_code (Elementwise unary.Abs) = 3
-class_code (Elementwise unary.Sign) = 4
-class_code (Elementwise unary.Not) = 5
-class_code (Elementwise unary.CountLeadingZeros) = 6
-class_code (Elementwise unary.Popcnt) = 7
-class_code (Pairwise binary.Add) = 8
-class_code (Pairwise binary.Subtract) = 9
-class_code (Pairwise binary.Multiply) = 10
-class_code (Pairwise binary.Maximum) = 11
-class_code (Pairwise binary.Minimum) = 12
-class_code (Pairwise binary.And) = 13
-class_code (Pairwise binary.Or) = 14
-class_code (Pairwise binary.Xor) = 15
-class_code (Pairwise binary.ShiftLeft) = 16
-class_code (Pairwise binary.ShiftRightArithmetic) = 17
-class_code (Pairwise binary.ShiftRightLogical) = 18
-class_code (Quotient Divide) = 19
-class_code (Quotient Remainder) = 20
-class_code Compare = 21
-class_code Convert = 22
-class_code Select = 23
-class_code Clamp = 24
-class_code (Moved move.Reshape) = 25
-class_code (Moved move.BroadcastInDim) = 26
-class_code (Moved move.Transpose) = 27
-class_code (Moved move.Slice) = 28
-class_code (Moved move.Reverse) = 29
-class_code Pad = 30
-class_code Concatenate = 31
-class_code DynamicSlice = 32
-class_code Reduce = 33
-
-unfoldable pub class_of : ℕ → Class
-class_of n =
-    get_or
-    (Constant ∷ Iota ∷ Elementwise unary.Negate ∷ Elementwise unary.Abs ∷ Elementwise unary.Sign ∷ Elementwise unary.Not ∷ Elementwise unary.CountLeadingZeros ∷ Elementwise unary.Popcnt ∷ Pairwise binary.Add ∷ Pairwise binary.Subtract ∷ Pairwise binary.Multiply ∷ Pairwise binary.Maximum ∷ Pairwise binary.Minimum ∷ Pairwise binary.And ∷ Pairwise binary.Or ∷ Pairwise binary.Xor ∷ Pairwise binary.ShiftLeft ∷ Pairwise binary.ShiftRightArithmetic ∷ Pairwise binary.ShiftRightLogical ∷ Quotient Divide ∷ Quotient Remainder ∷ Compare ∷ Convert ∷ Select ∷ Clamp ∷ Moved move.Reshape ∷ Moved move.BroadcastInDim ∷ Moved move.Transpose ∷ Moved move.Slice ∷ Moved move.Reverse ∷ Pad ∷ Concatenate ∷ DynamicSlice ∷ Reduce ∷ [])
-    n Constant
-
-unfoldable pub reducer_code : Reducer → ℕ
-reducer_code Not = 0
-reducer_code (By body.Add) = 1
-reducer_code (By body.Multiply) = 2
-reducer_code (By body.Maximum) = 3
-reducer_code (By body.Minimum) = 4
-reducer_code (By body.And) = 5
-reducer_code (By body.Or) = 6
-reducer_code (By body.Xor) = 7
-
-unfoldable pub reducer_of : ℕ → Reducer
-reducer_of n = get_or (Not ∷ By body.Add ∷ By body.Multiply ∷ By body.Maximum ∷ By body.Minimum ∷ By body.And ∷ By body.Or ∷ By body.Xor ∷ []) n Not
-
-unfoldable pub bit : Bool → ℕ
-bit false = 0
-bit true = 1
-
-unfoldable pub entry_of : Row → Entry
-entry_of r = (r.at, r.len, r.least, r.most, r.needed, r.a, r.b, r.c, bit r.body, takes_code r.first, takes_code r.rest, bit r.scalars, takes_code r.result, rule_code r.rule, class_code r.class, reducer_code r.reducer)
-
-unfoldable pub entry_at : ℕ → Entry
-entry_at i = get_or (map entry_of (rows_from 0 ops)) i (entry_of no_row)
 
 -- the kind of an attribute, of a choice's first word, of a choice
 unfoldable pub attribute_kind : ℕ → ℕ

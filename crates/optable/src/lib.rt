@@ -1,9 +1,9 @@
 // The op table (01, "The text": "The op table has one row per op: its name, operand count, attributes and body"), attribute names and choices.
 #![tactic(auto)]
 
-ghost use Rattle.std.specs.Prelude.{◌≡◌, true, false, not, ◌||◌, ◌+◌, ◌≤◌, ◌<◌, min, length, get_or, take, drop, eqb};
-ghost use Rattle.optable.specs.Names.{same, name_place};
-ghost use Rattle.optable.specs.Table.{ops, choices, names, table_bytes, word_at, no_row, row_at, takes_of, rule_of, class_of, reducer_of, entry_at, attribute_kind, choice_form, said_at, kind_said, direction_said, choice_kind, direction_at, may_reduce};
+ghost use Rattle.std.specs.Prelude.{◌≡◌, ◌+◌, ◌≤◌, ◌<◌, [], length, get_or, take, drop, Some, IfSome, unwrap_or};
+ghost use Rattle.optable.specs.Names.{name_place};
+ghost use Rattle.optable.specs.Table.{ops, choice_kinds, names, word_at, row_at, no_attribute, no_choice, kind_number, attribute_kind, choice_form, kind_said, direction_said, choice_kind, direction_at};
 ghost use Rattle.optable.specs.Find.{stretch, find_op, find_attribute, find_choice_kind, find_choice, slot_in};
 ghost use Rattle.optable.specs.Takes.{takes, operand_taken, result_taken};
 
@@ -62,13 +62,6 @@ pub enum Class {
     Reduce,
 }
 
-// Whether an op may be the op of a reduction's body, and the operation of such a body.
-#[derive(Clone, Copy)]
-pub enum Reducer {
-    Not,
-    By(Body),
-}
-
 // What a choice says: a direction of compare, or a type of comparison.
 #[derive(Clone, Copy)]
 pub enum Choice {
@@ -102,11 +95,12 @@ pub struct Row {
     pub rule: Rule,
     // What it computes.
     pub class: Class,
-    // Whether it may be the op of a reduction's body.
-    pub reducer: Reducer,
+    // Where it may be the op of a reduction's body, the operation of such a body.
+    pub reducer: Option<Body>,
 }
 
 // Where a name starts among the bytes of the names, and its length.
+// Kept: beside a name of the crate text, which does not lie below this one.
 #[derive(Clone, Copy)]
 pub struct Word {
     pub at: usize,
@@ -114,19 +108,13 @@ pub struct Word {
 }
 
 // The kinds of an attribute's value.
-#[derive(Drop)]
-pub struct Kinds {}
-
-impl Kinds {
-    pub const NUMBERS: usize = 1;
-
-    pub const NUMBER: usize = 2;
-
-    pub const DENSE: usize = 3;
-
-    pub const DIRECTION: usize = 4;
-
-    pub const COMPARE_TYPE: usize = 5;
+#[derive(Clone, Copy, PartialEq, Eq)]
+pub enum ValueKind {
+    Numbers,
+    Number,
+    Dense,
+    Direction,
+    CompareType,
 }
 
 // The ops of the table.
@@ -137,7 +125,7 @@ impl Ops {
     pub const COUNT: usize = 34;
 }
 
-// The attributes by their places; the place past the last one stands for none.
+// The attributes by their places; in a row the place past the last one stands for none.
 #[derive(Drop)]
 pub struct Attributes {}
 
@@ -175,15 +163,15 @@ impl Attributes {
     pub const NONE: usize = 15;
 }
 
-// The first words of choices; the place past the last one stands for none.
+// The first words of choices.
 #[derive(Drop)]
 pub struct ChoiceKinds {}
 
 impl ChoiceKinds {
-    pub const NONE: usize = 2;
+    pub const COUNT: usize = 2;
 }
 
-// The choices by their places; the place past the last one stands for none, or for an attribute that is absent.
+// The choices by their places; the place past the last one stands for an attribute that is absent.
 #[derive(Drop)]
 pub struct Choices {}
 
@@ -209,137 +197,371 @@ const NAMES: [u8; 925] =
     edge_padding_lowedge_padding_highinterior_paddingdimensionsslice_sizescomparison_direction\
     compare_typecomparison_directioncomparison_typeEQNEGEGTLELTSIGNEDUNSIGNED";
 
-// The variants of Takes, Rule, Class and Reducer, by the numbers that stand for them in the table.
-const TAKES: [Takes; 4] = [Takes::Any, Takes::Integer, Takes::Signed, Takes::Boolean];
+// What most ops on one operand have.
+const UNARY: Row = Row {
+    at: 0,
+    len: 0,
+    least: 1,
+    most: 1,
+    needed: 0,
+    a: Attributes::NONE,
+    b: Attributes::NONE,
+    c: Attributes::NONE,
+    body: false,
+    first: Takes::Any,
+    rest: Takes::Any,
+    scalars: false,
+    result: Takes::Any,
+    rule: Rule::SameTypes,
+    class: Class::Constant,
+    reducer: None,
+};
 
-const RULES: [Rule; 17] = [
-    Rule::SameTypes,
-    Rule::Abs,
-    Rule::Broadcast,
-    Rule::Clamp,
-    Rule::Compare,
-    Rule::Concatenate,
-    Rule::Constant,
-    Rule::Convert,
-    Rule::DynamicSlice,
-    Rule::Iota,
-    Rule::Pad,
-    Rule::Reduce,
-    Rule::Reshape,
-    Rule::Reverse,
-    Rule::Select,
-    Rule::Slice,
-    Rule::Transpose,
+// And most on two; the ops on integers alone.
+const BINARY: Row = Row {
+    least: 2,
+    most: 2,
+    ..UNARY
+};
+
+const INTEGER_UNARY: Row = Row {
+    first: Takes::Integer,
+    rest: Takes::Integer,
+    result: Takes::Integer,
+    ..UNARY
+};
+
+const INTEGER_BINARY: Row = Row {
+    first: Takes::Integer,
+    rest: Takes::Integer,
+    result: Takes::Integer,
+    ..BINARY
+};
+
+static OPS: [Row; 34] = [
+    // abs
+    Row {
+        at: 0,
+        len: 15,
+        first: Takes::Signed,
+        rest: Takes::Signed,
+        result: Takes::Signed,
+        rule: Rule::Abs,
+        class: Class::Elementwise(Unary::Abs),
+        ..UNARY
+    },
+    // add
+    Row {
+        at: 15,
+        len: 15,
+        class: Class::Pairwise(Binary::Add),
+        reducer: Some(Body::Add),
+        ..BINARY
+    },
+    // and
+    Row {
+        at: 30,
+        len: 15,
+        class: Class::Pairwise(Binary::And),
+        reducer: Some(Body::And),
+        ..BINARY
+    },
+    // broadcast_in_dim
+    Row {
+        at: 45,
+        len: 28,
+        needed: 1,
+        a: Attributes::BROADCAST_DIMENSIONS,
+        rule: Rule::Broadcast,
+        class: Class::Moved(Move::BroadcastInDim),
+        ..UNARY
+    },
+    // clamp
+    Row {
+        at: 73,
+        len: 17,
+        least: 3,
+        most: 3,
+        rule: Rule::Clamp,
+        class: Class::Clamp,
+        ..UNARY
+    },
+    // compare
+    Row {
+        at: 90,
+        len: 19,
+        needed: 1,
+        a: Attributes::COMPARISON_DIRECTION,
+        b: Attributes::COMPARE_TYPE,
+        result: Takes::Boolean,
+        rule: Rule::Compare,
+        class: Class::Compare,
+        ..BINARY
+    },
+    // concatenate
+    Row {
+        at: 109,
+        len: 23,
+        least: 0,
+        most: 8,
+        needed: 1,
+        a: Attributes::DIMENSION,
+        rule: Rule::Concatenate,
+        class: Class::Concatenate,
+        ..UNARY
+    },
+    // constant
+    Row {
+        at: 132,
+        len: 20,
+        least: 0,
+        most: 0,
+        needed: 1,
+        a: Attributes::VALUE,
+        rule: Rule::Constant,
+        ..UNARY
+    },
+    // convert
+    Row {
+        at: 152,
+        len: 19,
+        rule: Rule::Convert,
+        class: Class::Convert,
+        ..UNARY
+    },
+    // count_leading_zeros
+    Row {
+        at: 171,
+        len: 31,
+        class: Class::Elementwise(Unary::CountLeadingZeros),
+        ..INTEGER_UNARY
+    },
+    // divide
+    Row {
+        at: 202,
+        len: 18,
+        class: Class::Quotient(Division::Divide),
+        ..INTEGER_BINARY
+    },
+    // dynamic_slice
+    Row {
+        at: 220,
+        len: 25,
+        most: 8,
+        needed: 1,
+        a: Attributes::SLICE_SIZES,
+        rest: Takes::Integer,
+        scalars: true,
+        rule: Rule::DynamicSlice,
+        class: Class::DynamicSlice,
+        ..UNARY
+    },
+    // iota
+    Row {
+        at: 245,
+        len: 16,
+        least: 0,
+        most: 0,
+        needed: 1,
+        a: Attributes::IOTA_DIMENSION,
+        result: Takes::Integer,
+        rule: Rule::Iota,
+        class: Class::Iota,
+        ..UNARY
+    },
+    // maximum
+    Row {
+        at: 261,
+        len: 19,
+        class: Class::Pairwise(Binary::Maximum),
+        reducer: Some(Body::Maximum),
+        ..BINARY
+    },
+    // minimum
+    Row {
+        at: 280,
+        len: 19,
+        class: Class::Pairwise(Binary::Minimum),
+        reducer: Some(Body::Minimum),
+        ..BINARY
+    },
+    // multiply
+    Row {
+        at: 299,
+        len: 20,
+        class: Class::Pairwise(Binary::Multiply),
+        reducer: Some(Body::Multiply),
+        ..BINARY
+    },
+    // negate
+    Row {
+        at: 319,
+        len: 18,
+        class: Class::Elementwise(Unary::Negate),
+        ..INTEGER_UNARY
+    },
+    // not
+    Row {
+        at: 337,
+        len: 15,
+        class: Class::Elementwise(Unary::Not),
+        ..UNARY
+    },
+    // or
+    Row {
+        at: 352,
+        len: 14,
+        class: Class::Pairwise(Binary::Or),
+        reducer: Some(Body::Or),
+        ..BINARY
+    },
+    // pad
+    Row {
+        at: 366,
+        len: 15,
+        needed: 3,
+        a: Attributes::EDGE_PADDING_LOW,
+        b: Attributes::EDGE_PADDING_HIGH,
+        c: Attributes::INTERIOR_PADDING,
+        scalars: true,
+        rule: Rule::Pad,
+        class: Class::Pad,
+        ..BINARY
+    },
+    // popcnt
+    Row {
+        at: 381,
+        len: 18,
+        class: Class::Elementwise(Unary::Popcnt),
+        ..INTEGER_UNARY
+    },
+    // reduce
+    Row {
+        at: 399,
+        len: 18,
+        needed: 1,
+        a: Attributes::DIMENSIONS,
+        body: true,
+        scalars: true,
+        rule: Rule::Reduce,
+        class: Class::Reduce,
+        ..BINARY
+    },
+    // remainder
+    Row {
+        at: 417,
+        len: 21,
+        class: Class::Quotient(Division::Remainder),
+        ..INTEGER_BINARY
+    },
+    // reshape
+    Row {
+        at: 438,
+        len: 19,
+        rule: Rule::Reshape,
+        class: Class::Moved(Move::Reshape),
+        ..UNARY
+    },
+    // reverse
+    Row {
+        at: 457,
+        len: 19,
+        needed: 1,
+        a: Attributes::DIMENSIONS,
+        rule: Rule::Reverse,
+        class: Class::Moved(Move::Reverse),
+        ..UNARY
+    },
+    // select
+    Row {
+        at: 476,
+        len: 18,
+        least: 3,
+        most: 3,
+        first: Takes::Boolean,
+        rule: Rule::Select,
+        class: Class::Select,
+        ..UNARY
+    },
+    // shift_left
+    Row {
+        at: 494,
+        len: 22,
+        class: Class::Pairwise(Binary::ShiftLeft),
+        ..INTEGER_BINARY
+    },
+    // shift_right_arithmetic
+    Row {
+        at: 516,
+        len: 34,
+        class: Class::Pairwise(Binary::ShiftRightArithmetic),
+        ..INTEGER_BINARY
+    },
+    // shift_right_logical
+    Row {
+        at: 550,
+        len: 31,
+        class: Class::Pairwise(Binary::ShiftRightLogical),
+        ..INTEGER_BINARY
+    },
+    // sign
+    Row {
+        at: 581,
+        len: 16,
+        first: Takes::Signed,
+        rest: Takes::Signed,
+        result: Takes::Signed,
+        class: Class::Elementwise(Unary::Sign),
+        ..UNARY
+    },
+    // slice
+    Row {
+        at: 597,
+        len: 17,
+        needed: 3,
+        a: Attributes::START_INDICES,
+        b: Attributes::LIMIT_INDICES,
+        c: Attributes::STRIDES,
+        rule: Rule::Slice,
+        class: Class::Moved(Move::Slice),
+        ..UNARY
+    },
+    // subtract
+    Row {
+        at: 614,
+        len: 20,
+        class: Class::Pairwise(Binary::Subtract),
+        ..INTEGER_BINARY
+    },
+    // transpose
+    Row {
+        at: 634,
+        len: 21,
+        needed: 1,
+        a: Attributes::PERMUTATION,
+        rule: Rule::Transpose,
+        class: Class::Moved(Move::Transpose),
+        ..UNARY
+    },
+    // xor
+    Row {
+        at: 655,
+        len: 15,
+        class: Class::Pairwise(Binary::Xor),
+        reducer: Some(Body::Xor),
+        ..BINARY
+    },
 ];
 
-const CLASSES: [Class; 34] = [
-    Class::Constant,
-    Class::Iota,
-    Class::Elementwise(Unary::Negate),
-    Class::Elementwise(Unary::Abs),
-    Class::Elementwise(Unary::Sign),
-    Class::Elementwise(Unary::Not),
-    Class::Elementwise(Unary::CountLeadingZeros),
-    Class::Elementwise(Unary::Popcnt),
-    Class::Pairwise(Binary::Add),
-    Class::Pairwise(Binary::Subtract),
-    Class::Pairwise(Binary::Multiply),
-    Class::Pairwise(Binary::Maximum),
-    Class::Pairwise(Binary::Minimum),
-    Class::Pairwise(Binary::And),
-    Class::Pairwise(Binary::Or),
-    Class::Pairwise(Binary::Xor),
-    Class::Pairwise(Binary::ShiftLeft),
-    Class::Pairwise(Binary::ShiftRightArithmetic),
-    Class::Pairwise(Binary::ShiftRightLogical),
-    Class::Quotient(Division::Divide),
-    Class::Quotient(Division::Remainder),
-    Class::Compare,
-    Class::Convert,
-    Class::Select,
-    Class::Clamp,
-    Class::Moved(Move::Reshape),
-    Class::Moved(Move::BroadcastInDim),
-    Class::Moved(Move::Transpose),
-    Class::Moved(Move::Slice),
-    Class::Moved(Move::Reverse),
-    Class::Pad,
-    Class::Concatenate,
-    Class::DynamicSlice,
-    Class::Reduce,
-];
-
-const REDUCERS: [Reducer; 8] = [
-    Reducer::Not,
-    Reducer::By(Body::Add),
-    Reducer::By(Body::Multiply),
-    Reducer::By(Body::Maximum),
-    Reducer::By(Body::Minimum),
-    Reducer::By(Body::And),
-    Reducer::By(Body::Or),
-    Reducer::By(Body::Xor),
-];
-
-// A row as it stands in the table: the fields of Row in their order, as numbers; 0 and 1 for false and true.
-#[derive(Clone, Copy)]
-struct Entry(
-    usize,
-    usize,
-    usize,
-    usize,
-    usize,
-    usize,
-    usize,
-    usize,
-    usize,
-    usize,
-    usize,
-    usize,
-    usize,
-    usize,
-    usize,
-    usize,
-);
-
-const NONE: usize = Attributes::NONE;
-
-const OPS: [Entry; 34] = [
-    // at, len, least, most, needed, a, b, c, body, first, rest, scalars, result, rule, class, reducer
-    Entry(0, 15, 1, 1, 0, NONE, NONE, NONE, 0, 2, 2, 0, 2, 1, 3, 0), // abs
-    Entry(15, 15, 2, 2, 0, NONE, NONE, NONE, 0, 0, 0, 0, 0, 0, 8, 1), // add
-    Entry(30, 15, 2, 2, 0, NONE, NONE, NONE, 0, 0, 0, 0, 0, 0, 13, 5), // and
-    Entry(45, 28, 1, 1, 1, 2, NONE, NONE, 0, 0, 0, 0, 0, 2, 26, 0), // broadcast_in_dim
-    Entry(73, 17, 3, 3, 0, NONE, NONE, NONE, 0, 0, 0, 0, 0, 3, 24, 0), // clamp
-    Entry(90, 19, 2, 2, 1, 13, 14, NONE, 0, 0, 0, 0, 3, 4, 21, 0), // compare
-    Entry(109, 23, 0, 8, 1, 7, NONE, NONE, 0, 0, 0, 0, 0, 5, 31, 0), // concatenate
-    Entry(132, 20, 0, 0, 1, 0, NONE, NONE, 0, 0, 0, 0, 0, 6, 0, 0), // constant
-    Entry(152, 19, 1, 1, 0, NONE, NONE, NONE, 0, 0, 0, 0, 0, 7, 22, 0), // convert
-    Entry(171, 31, 1, 1, 0, NONE, NONE, NONE, 0, 1, 1, 0, 1, 0, 6, 0), // count_leading_zeros
-    Entry(202, 18, 2, 2, 0, NONE, NONE, NONE, 0, 1, 1, 0, 1, 0, 19, 0), // divide
-    Entry(220, 25, 1, 8, 1, 12, NONE, NONE, 0, 0, 1, 1, 0, 8, 32, 0), // dynamic_slice
-    Entry(245, 16, 0, 0, 1, 1, NONE, NONE, 0, 0, 0, 0, 1, 9, 1, 0), // iota
-    Entry(261, 19, 2, 2, 0, NONE, NONE, NONE, 0, 0, 0, 0, 0, 0, 11, 3), // maximum
-    Entry(280, 19, 2, 2, 0, NONE, NONE, NONE, 0, 0, 0, 0, 0, 0, 12, 4), // minimum
-    Entry(299, 20, 2, 2, 0, NONE, NONE, NONE, 0, 0, 0, 0, 0, 0, 10, 2), // multiply
-    Entry(319, 18, 1, 1, 0, NONE, NONE, NONE, 0, 1, 1, 0, 1, 0, 2, 0), // negate
-    Entry(337, 15, 1, 1, 0, NONE, NONE, NONE, 0, 0, 0, 0, 0, 0, 5, 0), // not
-    Entry(352, 14, 2, 2, 0, NONE, NONE, NONE, 0, 0, 0, 0, 0, 0, 14, 6), // or
-    Entry(366, 15, 2, 2, 3, 8, 9, 10, 0, 0, 0, 1, 0, 10, 30, 0), // pad
-    Entry(381, 18, 1, 1, 0, NONE, NONE, NONE, 0, 1, 1, 0, 1, 0, 7, 0), // popcnt
-    Entry(399, 18, 2, 2, 1, 11, NONE, NONE, 1, 0, 0, 1, 0, 11, 33, 0), // reduce
-    Entry(417, 21, 2, 2, 0, NONE, NONE, NONE, 0, 1, 1, 0, 1, 0, 20, 0), // remainder
-    Entry(438, 19, 1, 1, 0, NONE, NONE, NONE, 0, 0, 0, 0, 0, 12, 25, 0), // reshape
-    Entry(457, 19, 1, 1, 1, 11, NONE, NONE, 0, 0, 0, 0, 0, 13, 29, 0), // reverse
-    Entry(476, 18, 3, 3, 0, NONE, NONE, NONE, 0, 3, 0, 0, 0, 14, 23, 0), // select
-    Entry(494, 22, 2, 2, 0, NONE, NONE, NONE, 0, 1, 1, 0, 1, 0, 16, 0), // shift_left
-    Entry(516, 34, 2, 2, 0, NONE, NONE, NONE, 0, 1, 1, 0, 1, 0, 17, 0), // shift_right_arithmetic
-    Entry(550, 31, 2, 2, 0, NONE, NONE, NONE, 0, 1, 1, 0, 1, 0, 18, 0), // shift_right_logical
-    Entry(581, 16, 1, 1, 0, NONE, NONE, NONE, 0, 2, 2, 0, 2, 0, 4, 0), // sign
-    Entry(597, 17, 1, 1, 3, 4, 5, 6, 0, 0, 0, 0, 0, 15, 28, 0), // slice
-    Entry(614, 20, 2, 2, 0, NONE, NONE, NONE, 0, 1, 1, 0, 1, 0, 9, 0), // subtract
-    Entry(634, 21, 1, 1, 1, 3, NONE, NONE, 0, 0, 0, 0, 0, 16, 27, 0), // transpose
-    Entry(655, 15, 2, 2, 0, NONE, NONE, NONE, 0, 0, 0, 0, 0, 0, 15, 7), // xor
-];
+// What stands past the table's end.
+const NO_ROW: Row = Row {
+    least: 0,
+    most: 0,
+    a: 0,
+    b: 0,
+    c: 0,
+    ..UNARY
+};
 
 // The places of the names of attributes, first words of choices and choices.
 const OTHERS: [Word; 25] = [
@@ -371,9 +593,25 @@ const OTHERS: [Word; 25] = [
 ];
 
 // The kinds of the attributes and of the first words of choices.
-const ATTRIBUTE_KINDS: [usize; 15] = [3, 2, 1, 1, 1, 1, 1, 2, 1, 1, 1, 1, 1, 4, 5];
+const ATTRIBUTE_KINDS: [ValueKind; 15] = [
+    ValueKind::Dense,
+    ValueKind::Number,
+    ValueKind::Numbers,
+    ValueKind::Numbers,
+    ValueKind::Numbers,
+    ValueKind::Numbers,
+    ValueKind::Numbers,
+    ValueKind::Number,
+    ValueKind::Numbers,
+    ValueKind::Numbers,
+    ValueKind::Numbers,
+    ValueKind::Numbers,
+    ValueKind::Numbers,
+    ValueKind::Direction,
+    ValueKind::CompareType,
+];
 
-const CHOICE_KINDS: [usize; 2] = [4, 5];
+const CHOICE_KINDS: [ValueKind; 2] = [ValueKind::Direction, ValueKind::CompareType];
 
 // What the choices say.
 const CHOICES: [Choice; 8] = [
@@ -387,247 +625,116 @@ const CHOICES: [Choice; 8] = [
     Choice::Unsigned,
 ];
 
-// The table's row i.
-fn entry_at(i: usize) -> Entry
-    requires { i < length ops }
-    ensures { result ≡ entry_at i }
-{
-    OPS[i]
-}
-
-fn takes_of(n: usize) -> Takes
-    requires { n < 4 }
-    ensures { result ≡ takes_of n }
-{
-    TAKES[n]
-}
-
-fn rule_of(n: usize) -> Rule
-    requires { n < 17 }
-    ensures { result ≡ rule_of n }
-{
-    RULES[n]
-}
-
-fn class_of(n: usize) -> Class
-    requires { n < 34 }
-    ensures { result ≡ class_of n }
-{
-    CLASSES[n]
-}
-
-fn reducer_of(n: usize) -> Reducer
-    requires { n < 8 }
-    ensures { result ≡ reducer_of n }
-{
-    REDUCERS[n]
-}
-
-// What stands past the table's end.
-fn no_row() -> Row
-    ensures { result ≡ no_row }
-{
-    Row {
-        at: 0,
-        len: 0,
-        least: 0,
-        most: 0,
-        needed: 0,
-        a: 0,
-        b: 0,
-        c: 0,
-        body: false,
-        first: Takes::Any,
-        rest: Takes::Any,
-        scalars: false,
-        result: Takes::Any,
-        rule: Rule::SameTypes,
-        class: Class::Constant,
-        reducer: Reducer::Not,
-    }
-}
-
 // The row of op i; past the last one a row without a name.
+// Kept: a row there too, since the definition `row_at` has one.
 pub fn op_row(i: usize) -> Row
     ensures { result ≡ row_at i }
 {
-    if i < Ops::COUNT {
-        let e = entry_at(i);
-        let first = takes_of(e.9);
-        let rest = takes_of(e.10);
-        let result = takes_of(e.12);
-        let rule = rule_of(e.13);
-        let class = class_of(e.14);
-        let reducer = reducer_of(e.15);
-        return Row {
-            at: e.0,
-            len: e.1,
-            least: e.2,
-            most: e.3,
-            needed: e.4,
-            a: e.5,
-            b: e.6,
-            c: e.7,
-            body: e.8 == 1,
-            first,
-            rest,
-            scalars: e.11 == 1,
-            result,
-            rule,
-            class,
-            reducer,
-        };
-    }
-    no_row()
-}
-
-// A byte of the names.
-fn name_byte(i: usize) -> u8
-    requires { i < length table_bytes }
-    ensures { result ≡ get_or table_bytes i 0 }
-{
-    NAMES[i]
-}
-
-fn other_at(i: usize) -> Word
-    requires { length ops + i < length names }
-    ensures { result ≡ word_at (length ops + i) }
-{
-    OTHERS[i]
+    if i < Ops::COUNT { OPS[i] } else { NO_ROW }
 }
 
 // The place of name i: the ops' names, then the others.
-pub fn word_at(i: usize) -> Word
+fn word_at(i: usize) -> Word
     requires { i < length names }
     ensures { result ≡ word_at i }
 {
     if i < Ops::COUNT {
-        let r = op_row(i);
+        let row = op_row(i);
         return Word {
-            at: r.at,
-            len: r.len,
+            at: row.at,
+            len: row.len,
         };
     }
-    other_at(i - Ops::COUNT)
+    OTHERS[i - Ops::COUNT]
 }
 
-// The bytes are those of the names from at on.
-fn word_is(bytes: &[u8], at: usize, len: usize) -> bool
-    requires { at + len ≤ length table_bytes }
-    ensures { result ≡ same (take len (drop at table_bytes)) bytes.now }
+// Name i.
+fn name_at(i: usize) -> &'static [u8]
+    requires { i < length names }
+    ensures { result.now ≡ get_or names i [] }
 {
-    if bytes.len() != len {
-        return false;
-    }
-    let mut k = 0;
-    while k < len {
-        if name_byte(at + k) != bytes[k] {
-            return false;
-        }
-        k += 1;
-    }
-    true
+    let word = word_at(i);
+    &NAMES[word.at..word.at + word.len]
 }
 
 // The place of the bytes among count names from first on.
-fn place_of(bytes: &[u8], first: usize, count: usize) -> usize
+fn place_of(bytes: &[u8], first: usize, count: usize) -> Option<usize>
     requires { first + count ≤ length names }
-    ensures { result ≡ name_place (take count (drop first names)) bytes.now }
+    ensures found { unwrap_or result count ≡ name_place (take count (drop first names)) bytes.now }
+    ensures within { IfSome result (λ k. k < count) }
 {
-    let mut k = 0;
-    while k < count {
-        let w = word_at(first + k);
-        if word_is(bytes, w.at, w.len) {
-            return k;
+    for k in 0..count {
+        if name_at(first + k) == bytes {
+            return Some(k);
         }
-        k += 1;
     }
-    count
+    None
 }
 
 // The same, of the bytes of the text from start up to end.
-fn find(text: &[u8], start: usize, end: usize, first: usize, count: usize) -> usize
+fn find(text: &[u8], start: usize, end: usize, first: usize, count: usize) -> Option<usize>
     requires { first + count ≤ length names }
-    ensures { result ≡ name_place (take count (drop first names)) (stretch text.now start end) }
+    ensures found { unwrap_or result count ≡ name_place (take count (drop first names)) (stretch text.now start end) }
+    ensures within { IfSome result (λ k. k < count) }
 {
-    let stop = least_of(end, text.len());
-    if stop < start {
-        return place_of(&text[stop..stop], first, count);
-    }
-    place_of(&text[start..stop], first, count)
+    let stop = end.min(text.len());
+    place_of(&text[start.min(stop)..stop], first, count)
 }
 
-fn least_of(a: usize, b: usize) -> usize
-    ensures { result ≡ min a b }
-{
-    if a < b { a } else { b }
-}
-
-// The op whose quoted name stands in the text from start up to end; Ops::COUNT: none.
-pub fn find_op(text: &[u8], start: usize, end: usize) -> usize
-    ensures { result ≡ find_op text.now start end }
+// The op whose quoted name stands in the text from start up to end.
+pub fn find_op(text: &[u8], start: usize, end: usize) -> Option<usize>
+    ensures found { unwrap_or result (length ops) ≡ find_op text.now start end }
+    ensures within { IfSome result (λ i. i < length ops) }
 {
     find(text, start, end, 0, Ops::COUNT)
 }
 
-// The attribute; Attributes::NONE: none.
-pub fn find_attribute(text: &[u8], start: usize, end: usize) -> usize
-    ensures { result ≡ find_attribute text.now start end }
+// The attribute.
+pub fn find_attribute(text: &[u8], start: usize, end: usize) -> Option<usize>
+    ensures found { unwrap_or result no_attribute ≡ find_attribute text.now start end }
+    ensures within { IfSome result (λ k. k < no_attribute) }
 {
     find(text, start, end, Ops::COUNT, Attributes::NONE)
 }
 
-// The first word of a choice: comparison_direction, comparison_type; ChoiceKinds::NONE: none.
-pub fn find_choice_kind(text: &[u8], start: usize, end: usize) -> usize
-    ensures { result ≡ find_choice_kind text.now start end }
+// The first word of a choice: comparison_direction, comparison_type.
+pub fn find_choice_kind(text: &[u8], start: usize, end: usize) -> Option<usize>
+    ensures found { unwrap_or result (length choice_kinds) ≡ find_choice_kind text.now start end }
+    ensures within { IfSome result (λ k. k < length choice_kinds) }
 {
     let first = Ops::COUNT + Attributes::NONE;
-    find(text, start, end, first, ChoiceKinds::NONE)
+    find(text, start, end, first, ChoiceKinds::COUNT)
 }
 
-// The choice: EQ, NE, GE, GT, LE, LT, SIGNED, UNSIGNED; Choices::NONE: none.
-pub fn find_choice(text: &[u8], start: usize, end: usize) -> usize
-    ensures { result ≡ find_choice text.now start end }
+// The choice: EQ, NE, GE, GT, LE, LT, SIGNED, UNSIGNED.
+pub fn find_choice(text: &[u8], start: usize, end: usize) -> Option<usize>
+    ensures found { unwrap_or result no_choice ≡ find_choice text.now start end }
+    ensures within { IfSome result (λ k. k < no_choice) }
 {
-    let first = Ops::COUNT + Attributes::NONE + ChoiceKinds::NONE;
+    let first = Ops::COUNT + Attributes::NONE + ChoiceKinds::COUNT;
     find(text, start, end, first, Choices::NONE)
 }
 
-// The kind of attribute k; 0: no attribute.
-pub fn attribute_kind(k: usize) -> usize
-    ensures { result ≡ attribute_kind k }
+// The kind of attribute k.
+pub fn attribute_kind(k: usize) -> Option<ValueKind>
+    ensures { kind_number result ≡ attribute_kind k }
 {
-    if k < Attributes::NONE {
-        return ATTRIBUTE_KINDS[k];
-    }
-    0
+    ATTRIBUTE_KINDS.get(k).copied()
 }
 
-// The kind of the choices that first word k begins; 0: no such word.
-pub fn choice_form(k: usize) -> usize
-    ensures { result ≡ choice_form k }
+// The kind of the choices that first word k begins.
+pub fn choice_form(k: usize) -> Option<ValueKind>
+    ensures { kind_number result ≡ choice_form k }
 {
-    if k < ChoiceKinds::NONE {
-        return CHOICE_KINDS[k];
-    }
-    0
+    CHOICE_KINDS.get(k).copied()
 }
 
-// What choice k says.
-fn said_at(k: usize) -> Choice
-    requires { k < length choices }
-    ensures { result ≡ said_at k }
-{
-    CHOICES[k]
-}
-
-fn kind_said(c: Choice) -> usize
-    ensures { result ≡ kind_said c }
+fn kind_said(c: Choice) -> ValueKind
+    ensures { kind_number (Some result) ≡ kind_said c }
 {
     match c {
-        Choice::Compares(_) => Kinds::DIRECTION,
-        Choice::Signed => Kinds::COMPARE_TYPE,
-        Choice::Unsigned => Kinds::COMPARE_TYPE,
+        Choice::Compares(_) => ValueKind::Direction,
+        Choice::Signed | Choice::Unsigned => ValueKind::CompareType,
     }
 }
 
@@ -636,55 +743,42 @@ fn direction_said(c: Choice) -> Direction
 {
     match c {
         Choice::Compares(d) => d,
-        Choice::Signed => Direction::Eq,
-        Choice::Unsigned => Direction::Eq,
+        Choice::Signed | Choice::Unsigned => Direction::Eq,
     }
 }
 
-// The kind of choice k; 0: no choice.
-pub fn choice_kind(k: usize) -> usize
-    ensures { result ≡ choice_kind k }
+// The kind of choice k.
+pub fn choice_kind(k: usize) -> Option<ValueKind>
+    ensures { kind_number result ≡ choice_kind k }
 {
     if k < Choices::NONE {
-        return kind_said(said_at(k));
+        return Some(kind_said(CHOICES[k]));
     }
-    0
+    None
 }
 
 // The comparison_direction of choice k; EQ where it is none.
+// Kept: EQ there, since the definition `direction_at` says it.
 pub fn direction_at(k: usize) -> Direction
     ensures { result ≡ direction_at k }
 {
     if k < Choices::NONE {
-        return direction_said(said_at(k));
+        return direction_said(CHOICES[k]);
     }
     Direction::Eq
 }
 
-// Whether an op may be the op of a reduction's body.
-pub fn may_reduce(r: Reducer) -> bool
-    ensures { result ≡ may_reduce r }
+// The place of attribute k among those of the row; none where it is foreign to the op.
+#[tactic(auto, unfolding(crate::specs::Find::slot_in, lists::specs::Lists::first_where))]
+pub fn attribute_slot(r: Row, k: usize) -> Option<usize>
+    ensures found { unwrap_or result 3 ≡ slot_in r k }
+    ensures within { IfSome result (λ s. s < 3) }
 {
-    match r {
-        Reducer::Not => false,
-        Reducer::By(_) => true,
-    }
-}
-
-// The place of attribute k among those of the row; 3: it is foreign to the op.
-pub fn attribute_slot(r: Row, k: usize) -> usize
-    ensures { result ≡ slot_in r k }
-{
-    if r.a == k {
-        return 0;
-    }
-    if r.b == k {
-        return 1;
-    }
-    if r.c == k { 2 } else { 3 }
+    [r.a, r.b, r.c].iter().position(|&a| a == k)
 }
 
 // Whether a table takes an element type.
+#[tactic(auto, unfolding(crate::specs::Takes::takes))]
 fn is_taken(t: Takes, e: ElementType) -> bool
     ensures { result ≡ takes t e }
 {
@@ -697,31 +791,20 @@ fn is_taken(t: Takes, e: ElementType) -> bool
 }
 
 // Whether the Inputs table takes a tensor of this element type and rank as operand j.
+#[tactic(auto, unfolding(crate::specs::Takes::operand_taken))]
 pub fn operand_taken(r: Row, j: usize, e: ElementType, rank: usize) -> bool
     ensures { result ≡ operand_taken r j e rank }
 {
-    let first = r.first;
-    let rest = r.rest;
     if j == 0 {
-        return is_taken(first, e);
+        return is_taken(r.first, e);
     }
-    if is_taken(rest, e) {
-        return fits_rank(r.scalars, rank);
-    }
-    false
-}
-
-// Rank 0 where the table fixes it.
-fn fits_rank(scalars: bool, rank: usize) -> bool
-    ensures { result ≡ not scalars || eqb rank 0 }
-{
-    if scalars { rank == 0 } else { true }
+    is_taken(r.rest, e) && (!r.scalars || rank == 0)
 }
 
 // Whether the Outputs table takes this element type as the result.
+#[tactic(auto, unfolding(crate::specs::Takes::result_taken))]
 pub fn result_taken(r: Row, e: ElementType) -> bool
     ensures { result ≡ result_taken r e }
 {
-    let result = r.result;
-    is_taken(result, e)
+    is_taken(r.result, e)
 }

@@ -1,1 +1,2 @@
 pub mod OpwiseLaw
+pub mod HandedLaw

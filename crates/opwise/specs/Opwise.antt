@@ -3,14 +3,14 @@
 -- Assumes nothing.
 use Rattle.std.specs.Prelude.{ℕ, zero, suc, ◌+◌, ◌≤◌, ◌≡◌, List, length, get_or, eqb}
 use Rattle.lists.specs.Lists.{pick}
-use Rattle.judge.specs.declared.Refusal.{Refusal}
+use Rattle.judge.specs.Refusals.{Refusal}
 use Rattle.judge.specs.Judge.{refuse, accepted}
 use Rattle.program.specs.declared.Program.{Program}
 use Rattle.program.specs.Parts.{op_at}
 use Rattle.values.specs.declared.Values.{Values}
-use Rattle.scope.specs.declared.NameFault.{NameFault}
+use Rattle.scope.specs.Faults.{NameFault}
 use Rattle.known.specs.Known.{names_fault}
-use Rattle.typing.specs.declared.Judged.{Judged}
+use Rattle.typing.specs.Typing.{Judged}
 use Rattle.outputs.specs.Outputs.{return_judged}
 use Rattle.typing.specs.Typing.{op_judged}
 

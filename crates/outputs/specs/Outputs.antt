@@ -8,7 +8,7 @@ use Rattle.dimrules.specs.Types.{same_type}
 use Rattle.places.specs.Places.{operand_name, operand_type, attribute_name, body_open, output_type, count_of, type_of_part}
 use Rattle.values.specs.declared.Value.{Value}
 use Rattle.operands.specs.Operands.{arity_of, operands_typed}
-use Rattle.typing.specs.declared.Judged.{Judged}
+use Rattle.typing.specs.Typing.{Judged}
 use Rattle.typing.specs.Typing.{results_are}
 
 -- output j of the header is what the return names

@@ -88,9 +88,10 @@ pub fn pad_examples(rt: &impl Print) {
     );
 }
 
-fn start_examples(rt: &impl Print) {
-    let x = [1650u64, 1675, 1700, 1725];
-    let mut last = [0u64; 1];
+// One row of the table, by a start of its type.
+fn start_example(rt: &impl Print, t: ElementType, start: u64) {
+    let x = [1650, 1675, 1700, 1725];
+    let mut row = [0; 1];
     shown_shapes::dynamic_slice(
         rt,
         b"dynamic_slice",
@@ -99,30 +100,13 @@ fn start_examples(rt: &impl Print) {
             rank: 1,
             dims: [4usize, 0, 0, 0, 0, 0],
         },
-        ElementType::U8,
-        [255u64, 0, 0, 0, 0, 0],
+        t,
+        [start, 0, 0, 0, 0, 0],
         Shape {
             rank: 1,
             dims: [1usize, 0, 0, 0, 0, 0],
         },
-        &mut last,
-    );
-    let mut first = [0u64; 1];
-    shown_shapes::dynamic_slice(
-        rt,
-        b"dynamic_slice",
-        &x,
-        Shape {
-            rank: 1,
-            dims: [4usize, 0, 0, 0, 0, 0],
-        },
-        ElementType::I8,
-        [18446744073709551615u64, 0, 0, 0, 0, 0],
-        Shape {
-            rank: 1,
-            dims: [1usize, 0, 0, 0, 0, 0],
-        },
-        &mut first,
+        &mut row,
     );
 }
 
@@ -149,7 +133,8 @@ fn window_example(rt: &impl Print) {
 
 // dynamic_slice: 01, ui8 255 and i8 -1; 000, starts -1 and 3
 pub fn dynamic_slice_examples(rt: &impl Print) {
-    start_examples(rt);
+    start_example(rt, ElementType::U8, 255);
+    start_example(rt, ElementType::I8, 18446744073709551615);
     window_example(rt);
 }
 

@@ -11,7 +11,7 @@ use borrow.Author.Tests.{eqb-true}
 use Rattle.lists.proofs.TestLaw.{both_true}
 use Rattle.lists.specs.Lists.{pick}
 use Rattle.shape.specs.Dims.{Sized}
-use Rattle.types.specs.declared.tensors.TypeRead.{TypeRead}
+use Rattle.types.specs.Tensors.{TypeRead}
 use Rattle.types.specs.Tensors.{element_named, bytes_between, dimensions_from, byte_count, type_of, type_after, typed, foreign}
 use Rattle.scan.specs.Ascii.{ascii}
 use Rattle.scan.specs.Bytes.{starts_with}

@@ -4,7 +4,7 @@ use Rattle.std.specs.Prelude.{ℕ, ◌+◌, ◌*◌, List, Bool, ◌&&◌, get_o
 use Rattle.lists.specs.Lists.{pick}
 use Rattle.element.specs.declared.ElementType.TheVariants.{I1}
 use Rattle.types.specs.Tensors.{type_of}
-use Rattle.types.specs.declared.tensors.TypeRead.{TypeRead}
+use Rattle.types.specs.Tensors.{TypeRead}
 use Rattle.dimrules.specs.declared.TensorType.{TensorType}
 use Rattle.program.specs.declared.Parts.{Parts}
 

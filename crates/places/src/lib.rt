@@ -4,7 +4,7 @@
 ghost use Rattle.std.specs.Prelude.{◌≡◌, ◌<◌};
 ghost use Rattle.places.specs.Places.{count_of, place_of, blank_type, type_in, type_of_part};
 
-use dimrules::{TensorType, both};
+use dimrules::TensorType;
 use element::ElementType;
 use limits::Limits;
 use program::Parts;
@@ -38,50 +38,57 @@ impl Part {
 }
 
 // How many tokens part k has, 9 standing for more than eight.
+#[tactic(auto, unfolding(crate::specs::Places::count_of))]
 pub fn count_of(p: Parts, k: usize) -> usize
     requires { k < 11 }
     ensures { result ≡ count_of p k }
 {
-    let count = p.count;
-    count[k]
+    p.count[k]
 }
 
 // The first byte of token j of part k.
+#[tactic(auto, unfolding(crate::specs::Places::place_of))]
 pub fn place_of(p: Parts, k: usize, j: usize) -> usize
     requires { (k < 11) × (j < 8) }
     ensures { result ≡ place_of p k j }
 {
-    let at = p.at;
-    at[Limits::OPERANDS * k + j]
+    p.at[Limits::OPERANDS * k + j]
 }
 
 pub fn blank_type() -> TensorType
     ensures { result ≡ blank_type }
 {
-    let shape = Shape {
-        rank: 0,
-        dims: [0; Limits::RANK],
-    };
     TensorType {
         element: ElementType::I1,
-        shape: shape,
+        shape: Shape {
+            rank: 0,
+            dims: [0; Limits::RANK],
+        },
     }
 }
 
 // The type whose token starts at byte at.
+#[tactic(auto, unfolding(crate::specs::Places::type_in))]
 pub fn type_in(text: &[u8], at: usize) -> TensorType
     ensures { result ≡ type_in text.now at }
 {
-    let t = type_at(text, at);
-    let element = t.element;
-    let shape = t.shape;
-    if both(t.known, t.passed == 0) {
-        return TensorType { element, shape };
+    match type_at(text, at) {
+        Some(t) => {
+            if t.passed.is_none() {
+                TensorType {
+                    element: t.element,
+                    shape: t.shape,
+                }
+            } else {
+                blank_type()
+            }
+        }
+        None => blank_type(),
     }
-    blank_type()
 }
 
 // The type at token j of part k.
+#[tactic(auto, unfolding(crate::specs::Places::type_of_part))]
 pub fn type_of(text: &[u8], p: Parts, k: usize, j: usize) -> TensorType
     requires { (k < 11) × (j < 8) }
     ensures { result ≡ type_of_part text.now p k j }

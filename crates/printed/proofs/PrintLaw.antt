@@ -131,15 +131,15 @@ module _ (e : ElementType) (dims : List ℕ) (rank k : ℕ) where
     first-item slots m a q = rw (some_left, sub-zero) (then-put 91 _ m a _ q refl)
 
 -- the sizes from dimension d on
-module _ (dims : List ℕ) (rank d : ℕ) where
-  pub shape-step : (l a b : Laid) → d < rank → rank ≤ length dims → a ≡ lay (decimal (get_or dims d 0)) l → b ≡ put 120 a →
-      lay (shape_text (rest dims rank (d + 1))) b ≡ lay (shape_text (rest dims rank d)) l
+module _ (dims : List ℕ) (d : ℕ) where
+  pub shape-step : (l a b : Laid) → d < length dims → a ≡ lay (decimal (get_or dims d 0)) l → b ≡ put 120 a →
+      lay (shape_text (drop (d + 1) dims)) b ≡ lay (shape_text (drop d dims)) l
   unfolding shape_text
-  shape-step l a b h n p q = rw (rest-cons dims rank d h n) (then-lay (decimal (get_or dims d 0)) _ l a _ p (then-put 120 _ a b _ q refl))
+  shape-step l a b h p q = rw (drop-cons dims d 0 h, add-one d) (then-lay (decimal (get_or dims d 0)) _ l a _ p (then-put 120 _ a b _ q refl))
 
-  pub shape-end : (l : Laid) → rank ≤ d → l ≡ lay (shape_text (rest dims rank d)) l
+  pub shape-end : (l : Laid) → length dims ≤ d → l ≡ lay (shape_text (drop d dims)) l
   unfolding shape_text lay
-  shape-end l h = rw (rest_all dims rank d h)
+  shape-end l h = rw drop_of_length-le
 
 -- all of the dimensions
 module _ (e : ElementType) (dims : List ℕ) (rank : ℕ) where

@@ -11,7 +11,7 @@ ghost use Rattle.shape.specs.Dims.{dims_of, Sized, Fills};
 ghost use Rattle.printed.specs.Printed.{digits_of, number_text, literal_text, value_text, shape_text, element_text, printed};
 
 use element::{ElementType, is_negative, magnitude};
-use laid::put_byte;
+use laid::put;
 use shape::Shape;
 
 // The place after what was printed, and the slot after those printed.
@@ -25,7 +25,7 @@ fn digit(n: u64) -> u8
     requires { n < 10 }
     ensures { result ≡ 48 + n }
 {
-    48 + n as u8
+    b'0' + n as u8
 }
 
 // The decimal digits of n, at most `most`, which falls at each call.
@@ -33,23 +33,22 @@ fn put_digits(n: u64, most: usize, out: &mut [u8], from: usize) -> usize
     ensures { laid result out.new ≡ lay (digits_of most n) (laid from out.old) }
 {
     if most == 0 {
-        return from;
+        from
+    } else if n < 10 {
+        put(out, from, digit(n))
+    } else {
+        let p = put_digits(n / 10, most - 1, out, from);
+        put(out, p, digit(n % 10))
     }
-    if n < 10 {
-        return put_byte(out, from, digit(n));
-    }
-    let p = put_digits(n / 10, most - 1, out, from);
-    put_byte(out, p, digit(n % 10))
 }
 
-fn put_text(out: &mut [u8], from: usize, word: &[u8]) -> usize
+// The bytes of a text, as far as there is room; the place after them.
+pub fn put_text(out: &mut [u8], from: usize, word: &[u8]) -> usize
     ensures { laid result out.new ≡ lay word.now (laid from out.old) }
 {
     let mut place = from;
-    let mut i: usize = 0;
-    while i < word.len() {
-        place = put_byte(out, place, word[i]);
-        i += 1;
+    for b in word {
+        place = put(out, place, *b);
     }
     place
 }
@@ -60,19 +59,21 @@ fn put_number(e: ElementType, s: u64, out: &mut [u8], from: usize) -> usize
 {
     let m = magnitude(e, s);
     if is_negative(e, s) {
-        let p = put_byte(out, from, b'-');
-        return put_digits(m, 20, out, p);
+        let p = put(out, from, b'-');
+        put_digits(m, 20, out, p)
+    } else {
+        put_digits(m, 20, out, from)
     }
-    put_digits(m, 20, out, from)
 }
 
 fn put_boolean(s: u64, out: &mut [u8], from: usize) -> usize
     ensures { laid result out.new ≡ lay (pick (eqb s 0) (ascii "false") (ascii "true")) (laid from out.old) }
 {
     if s == 0 {
-        return put_text(out, from, b"false");
+        put_text(out, from, b"false")
+    } else {
+        put_text(out, from, b"true")
     }
-    put_text(out, from, b"true")
 }
 
 // A slot as a literal of its type.
@@ -80,9 +81,10 @@ fn put_literal(e: ElementType, s: u64, out: &mut [u8], from: usize) -> usize
     ensures { laid result out.new ≡ lay (literal_text e s) (laid from out.old) }
 {
     if e.is_bool() {
-        return put_boolean(s, out, from);
+        put_boolean(s, out, from)
+    } else {
+        put_number(e, s, out, from)
     }
-    put_number(e, s, out, from)
 }
 
 // `, ` before item j, or nothing before the first.
@@ -90,9 +92,10 @@ fn put_separator(j: usize, out: &mut [u8], from: usize) -> usize
     ensures { laid result out.new ≡ lay (pick (eqb j 0) [] (ascii ", ")) (laid from out.old) }
 {
     if j == 0 {
-        return from;
+        from
+    } else {
+        put_text(out, from, b", ")
     }
-    put_text(out, from, b", ")
 }
 
 // The lists of the last k dimensions of the shape, of the elements from `slot` on: k falls at each call.
@@ -110,27 +113,22 @@ fn put_lists(
         × (laid result.place out.new ≡ lay (value_text e (rest shape.dims shape.rank (shape.rank - k)) (drop slot slots.now)) (laid from out.old)) }
 {
     if k == 0 {
-        let p = put_literal(e, slots[slot], out, from);
         return Printing {
-            place: p,
+            place: put_literal(e, slots[slot], out, from),
             slot: slot + 1,
         };
     }
-    let dims = shape.dims;
-    let count = dims[shape.rank - k];
-    let mut place = put_byte(out, from, b'[');
+    let count = shape.dims[shape.rank - k];
+    let mut place = put(out, from, b'[');
     let mut here = slot;
-    let mut j: usize = 0;
-    while j < count {
+    for j in 0..count {
         let p = put_separator(j, out, place);
         let r = put_lists(e, shape, k - 1, slots, here, out, p);
         place = r.place;
         here = r.slot;
-        j += 1;
     }
-    let end = put_byte(out, place, b']');
     Printing {
-        place: end,
+        place: put(out, place, b']'),
         slot: here,
     }
 }
@@ -140,35 +138,23 @@ fn put_shape(shape: Shape, out: &mut [u8], from: usize) -> usize
     requires { shape.rank ≤ 6 }
     ensures { laid result out.new ≡ lay (shape_text (dims_of shape)) (laid from out.old) }
 {
-    let rank = shape.rank;
-    let dims = shape.dims;
     let mut place = from;
-    let mut d: usize = 0;
-    while d < rank {
-        let p = put_digits(dims[d] as u64, 20, out, place);
-        place = put_byte(out, p, b'x');
-        d += 1;
+    for d in &shape.dims[..shape.rank] {
+        let p = put_digits(*d as u64, 20, out, place);
+        place = put(out, p, b'x');
     }
     place
-}
-
-fn has_sign(e: ElementType) -> bool
-    ensures { result ≡ (signed_of e || bool_of e) }
-{
-    if e.is_signed() {
-        return true;
-    }
-    e.is_bool()
 }
 
 // The `u` of the unsigned types.
 fn put_sign(e: ElementType, out: &mut [u8], from: usize) -> usize
     ensures { laid result out.new ≡ lay (pick (signed_of e || bool_of e) [] (ascii "u")) (laid from out.old) }
 {
-    if has_sign(e) {
-        return from;
+    if e.is_signed() || e.is_bool() {
+        from
+    } else {
+        put(out, from, b'u')
     }
-    put_byte(out, from, b'u')
 }
 
 // The name of the element type.
@@ -176,7 +162,7 @@ fn put_element(e: ElementType, out: &mut [u8], from: usize) -> usize
     ensures { laid result out.new ≡ lay (element_text e) (laid from out.old) }
 {
     let p = put_sign(e, out, from);
-    let q = put_byte(out, p, b'i');
+    let q = put(out, p, b'i');
     put_digits(e.width(), 20, out, q)
 }
 

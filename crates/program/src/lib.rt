@@ -1,8 +1,7 @@
 // The program of a text, as places in it.
 #![tactic(auto)]
 
-ghost use Rattle.std.specs.Prelude.{◌≡◌, false, ◌<◌, ◌≤◌, eqb, length};
-ghost use Rattle.lists.specs.Lists.{pick};
+ghost use Rattle.std.specs.Prelude.{◌≡◌, false, ◌<◌, ◌≤◌, length};
 ghost use Rattle.syntax.specs.Readings.{readings};
 ghost use Rattle.program.specs.Parts.{part_of, no_parts, added_to, noted, depth_after, parts_of, parts_at, op_at, body_at};
 ghost use Rattle.program.specs.Program.{no_program, begun, in_header, names_op, begins_op, naming_after, outlined, program_from, program_of};
@@ -41,6 +40,7 @@ fn part_of(role: u8) -> u8
     PARTS[role as usize] - 48
 }
 
+#[tactic(auto, unfolding(crate::specs::Parts::no_parts))]
 fn empty_parts() -> Parts
     ensures { result ≡ no_parts }
 {
@@ -51,6 +51,7 @@ fn empty_parts() -> Parts
 }
 
 // One token more of part k.
+#[tactic(auto, unfolding(crate::specs::Parts::added_to))]
 fn added_to(p: Parts, k: usize, place: usize) -> Parts
     requires { k < 11 }
     ensures { result ≡ added_to p k place }
@@ -60,47 +61,32 @@ fn added_to(p: Parts, k: usize, place: usize) -> Parts
     if n < Limits::OPERANDS {
         next.count[k] = n + 1;
         next.at[Limits::OPERANDS * k + n] = place;
-        return next;
+    } else {
+        next.count[k] = Parts::MORE;
     }
-    next.count[k] = Parts::MORE;
     next
 }
 
 // One token more, in the part of its role.
+#[tactic(auto, unfolding(crate::specs::Parts::noted))]
 fn note(p: Parts, role: u8, place: usize) -> Parts
     ensures { result ≡ noted p role place }
 {
     let k = part_of(role) as usize;
-    if k < 11 {
-        return added_to(p, k, place);
-    }
-    p
+    if k < 11 { added_to(p, k, place) } else { p }
 }
 
 // How many bodies are open after a token of this role.
+#[tactic(auto, unfolding(crate::specs::Parts::depth_after))]
 fn depth_after(depth: usize, role: u8) -> usize
     requires { depth ≤ 65537 }
     ensures { result ≡ depth_after depth role }
 {
-    if role == Role::BODY_OPEN {
-        return depth + 1;
+    match role {
+        Role::BODY_OPEN => depth + 1,
+        Role::BODY_CLOSE => depth.saturating_sub(1),
+        _ => depth,
     }
-    if role == Role::BODY_CLOSE {
-        if depth > 0 {
-            return depth - 1;
-        }
-        return 0;
-    }
-    depth
-}
-
-fn note_at(p: Parts, level: usize, depth: usize, role: u8, place: usize) -> Parts
-    ensures { result ≡ pick (eqb depth level) (noted p role place) p }
-{
-    if depth == level {
-        return note(p, role, place);
-    }
-    p
 }
 
 // The parts of what the symbol derives, read from byte at on: of its tokens inside so many bodies.
@@ -112,20 +98,20 @@ fn parts_of(symbol: u8, level: usize, text: &[u8], at: usize, stack: &mut [u8]) 
     let mut depth = 0;
     let mut top = start(stack, symbol);
     let mut place = at;
-    let mut left = text.len() + 1;
-    while left > 0 {
+    for _ in 0..=text.len() {
         if top == stack.len() {
             return parts;
         }
-        let r = read_token(text, place, stack, top);
-        if !r.fits {
+        let turn = read_token(text, place, stack, top);
+        let Some(taken) = turn.taken else {
             return parts;
+        };
+        if depth == level {
+            parts = note(parts, taken.role, turn.token.start);
         }
-        parts = note_at(parts, level, depth, r.role, r.token.start);
-        depth = depth_after(depth, r.role);
-        top = r.top;
-        place = r.token.end;
-        left -= 1;
+        depth = depth_after(depth, taken.role);
+        top = taken.top;
+        place = turn.token.end;
     }
     parts
 }
@@ -142,6 +128,7 @@ fn parts_at(symbol: u8, level: usize, text: &[u8], at: usize) -> Parts
 }
 
 // The op whose first token is at or after byte at.
+#[tactic(auto, unfolding(crate::specs::Parts::op_at))]
 pub fn op_at(text: &[u8], at: usize) -> Parts
     ensures { result ≡ op_at text.now at }
 {
@@ -149,6 +136,7 @@ pub fn op_at(text: &[u8], at: usize) -> Parts
 }
 
 // The body whose opening brace is at or after byte at.
+#[tactic(auto, unfolding(crate::specs::Parts::body_at))]
 pub fn body_at(text: &[u8], at: usize) -> Parts
     ensures { result ≡ body_at text.now at }
 {
@@ -168,6 +156,7 @@ impl Program {
     pub const MORE: usize = Limits::OPS_WITH_RETURN + 1;
 }
 
+#[tactic(auto, unfolding(crate::specs::Program::no_program))]
 fn empty_program() -> Program
     ensures { result ≡ no_program }
 {
@@ -180,6 +169,7 @@ fn empty_program() -> Program
 }
 
 // One op more.
+#[tactic(auto, unfolding(crate::specs::Program::begun))]
 fn begin(p: Program, place: usize) -> Program
     ensures { result ≡ begun p place }
 {
@@ -188,100 +178,59 @@ fn begin(p: Program, place: usize) -> Program
     if n < Limits::OPS_WITH_RETURN {
         next.count = n + 1;
         next.ops[n] = place;
-        return next;
+    } else {
+        next.count = Program::MORE;
     }
-    next.count = Program::MORE;
     next
 }
 
+#[tactic(auto, unfolding(crate::specs::Program::in_header, scan::specs::Bytes::among))]
 fn in_header(role: u8) -> bool
     ensures { result ≡ in_header role }
 {
-    if role == Role::FUNCTION_NAME {
-        return true;
-    }
-    if role == Role::INPUT_NAME {
-        return true;
-    }
-    if role == Role::INPUT_TYPE {
-        return true;
-    }
-    if role == Role::OUTPUT_TYPE {
-        return true;
-    }
-    false
+    matches!(
+        role,
+        Role::FUNCTION_NAME | Role::INPUT_NAME | Role::INPUT_TYPE | Role::OUTPUT_TYPE
+    )
 }
 
+#[tactic(auto, unfolding(crate::specs::Program::names_op, scan::specs::Bytes::among))]
 fn names_op(role: u8) -> bool
     ensures { result ≡ names_op role }
 {
-    if role == Role::OP_NAME {
-        return true;
-    }
-    if role == Role::FUNC_RETURN {
-        return true;
-    }
-    false
+    matches!(role, Role::OP_NAME | Role::FUNC_RETURN)
 }
 
 // Whether an op begins at a token of this role.
+#[tactic(auto, unfolding(crate::specs::Program::begins_op))]
 fn begins_op(naming: bool, role: u8) -> bool
     ensures { result ≡ begins_op naming role }
 {
-    if naming {
-        return false;
-    }
-    if role == Role::RESULT_NAME {
-        return true;
-    }
-    names_op(role)
+    !naming && (role == Role::RESULT_NAME || names_op(role))
 }
 
+#[tactic(auto, unfolding(crate::specs::Program::naming_after))]
 fn naming_after(naming: bool, role: u8) -> bool
     ensures { result ≡ naming_after naming role }
 {
-    if role == Role::RESULT_NAME {
-        return true;
-    }
-    if names_op(role) {
-        return false;
-    }
-    naming
+    role == Role::RESULT_NAME || (naming && !names_op(role))
 }
 
 // One token more of the function itself.
+#[tactic(auto, unfolding(crate::specs::Program::outlined))]
 fn outline(p: Program, naming: bool, role: u8, place: usize) -> Program
     ensures { result ≡ outlined p naming role place }
 {
     if in_header(role) {
-        let mut next = p;
-        let header = next.header;
-        let noted = note(header, role, place);
-        next.header = noted;
-        return next;
+        return Program {
+            header: note(p.header, role, place),
+            ..p
+        };
     }
     if begins_op(naming, role) {
         return begin(p, place);
     }
     p
-}
-
-fn outline_at(p: Program, naming: bool, depth: usize, role: u8, place: usize) -> Program
-    ensures { result ≡ pick (eqb depth 0) (outlined p naming role place) p }
-{
-    if depth == 0 {
-        return outline(p, naming, role, place);
-    }
-    p
-}
-
-fn naming_at(naming: bool, depth: usize, role: u8) -> bool
-    ensures { result ≡ pick (eqb depth 0) (naming_after naming role) naming }
-{
-    if depth == 0 {
-        return naming_after(naming, role);
-    }
-    naming
 }
 
 // The program of a text that is not too long.
@@ -294,21 +243,21 @@ fn program_in(text: &[u8], stack: &mut [u8]) -> Program
     let mut depth = 0;
     let mut top = start(stack, Symbol::PROGRAM);
     let mut place = 0;
-    let mut left = text.len() + 1;
-    while left > 0 {
+    for _ in 0..=text.len() {
         if top == stack.len() {
             return program;
         }
-        let r = read_token(text, place, stack, top);
-        if !r.fits {
+        let turn = read_token(text, place, stack, top);
+        let Some(taken) = turn.taken else {
             return program;
+        };
+        if depth == 0 {
+            program = outline(program, naming, taken.role, turn.token.start);
+            naming = naming_after(naming, taken.role);
         }
-        program = outline_at(program, naming, depth, r.role, r.token.start);
-        naming = naming_at(naming, depth, r.role);
-        depth = depth_after(depth, r.role);
-        top = r.top;
-        place = r.token.end;
-        left -= 1;
+        depth = depth_after(depth, taken.role);
+        top = taken.top;
+        place = turn.token.end;
     }
     program
 }

@@ -6,12 +6,12 @@ use mathlib.Core.List.{List, [], ◌++◌}
 use Prim.Native.Nat.{ℕ, ◌+◌, ◌≤◌, ◌<◌}
 use native.Mathlib.Decide.{ℕ_discrete}
 use native.Mathlib.Omega.{arith}
-use borrow.Author.Tests.{eq-eqb, ne_eqb, ltb-true, ltb-false}
+use borrow.Author.Tests.{eq-eqb, ne_eqb, le-ltb, ltb-true, ltb-false}
 use lib.Dec.{ltb}
 use lib.ListN.{length, replicate}
 use Rattle.lists.specs.Lists.{pick}
 use Rattle.laid.specs.Laid.{Laid, written}
-use Rattle.judge.specs.declared.Refusal.{Refusal}
+use Rattle.judge.specs.Refusals.{Refusal}
 use Rattle.judge.specs.Judge.{refuse}
 use Rattle.verify.specs.Verify.{verdict}
 use Rattle.evaluation.specs.Evaluated.{Evaluated, answer, evaluated}
@@ -29,6 +29,15 @@ zero-accepted text inputs old new r e z = by-verdict (ℕ_discrete (verdict text
     by-verdict : Dec ((verdict text).number ≡ 0) → (verdict text).number ≡ 0
     by-verdict (yes h) = h
     by-verdict (no h) = absurd (h (ap (λ (x : Evaluated). x.refusal.number) (refused text inputs old h ∙ sym e) ∙ z))
+
+-- the kept part is accepted where the whole text is
+pub kept-accepted : (len more : ℕ) (r : Refusal) → (whole_refusal len more r).number ≡ 0 → r.number ≡ 0
+unfolding whole_refusal
+kept-accepted len more r = go (ltb 65536 len)
+  where
+    go : (b : Bool) → (pick b (refuse 1 (len + more) 0) r).number ≡ 0 → r.number ≡ 0
+    go true h = absurd (omega arith)
+    go false h = h
 
 module _ (text rest : List ℕ) (more : ℕ) (cut : CutOff 65537 (length text) more) (counted : length rest ≡ more) (r : Refusal) (store : List ℕ) (e : answer r store ≡ alone text) where
   -- an accepted text is within the size
@@ -57,10 +66,14 @@ module _ (text rest : List ℕ) (more : ℕ) (cut : CutOff 65537 (length text) m
           rw (← refused (text ++ rest) [] (replicate 8192 0) (λ n. omega (arith, one, n)), v)
       go false p q = rw (nothing-more text rest more cut counted (q refl), ← e, ne_eqb r.number 0 z)
 
-  -- what is laid in each case
-  module _ (old : List ℕ) (l : Laid) where
-    pub results-laid : r.number ≡ 0 → l ≡ written (result_lines text store) 0 old → l ≡ written (output_of (text ++ rest)) 0 old
-    results-laid z h = h ∙ ap (λ (x : List ℕ). written x 0 old) (sym (results-out z))
+  kept-refused : ((whole_refusal (length text) more r).number ≡ 0 → ⊥) → r.number ≡ 0 → ⊥
+  unfolding whole_refusal
+  kept-refused h z = h (rw (le-ltb 65536 (length text) (short z)) z)
 
-    pub refused-laid : (x : Refusal) → x ≡ whole_refusal (length text) more r → (r.number ≡ 0 → ⊥) → l ≡ written (refused_line x) 0 old → l ≡ written (output_of (text ++ rest)) 0 old
-    refused-laid x w z h = h ∙ ap (λ (y : List ℕ). written y 0 old) (ap refused_line w ∙ sym (refused-out z))
+  -- what is laid in each case, x being the refusal of the whole text
+  module _ (old : List ℕ) (l : Laid) (x : Refusal) (w : x ≡ whole_refusal (length text) more r) where
+    pub results-laid : x.number ≡ 0 → l ≡ written (result_lines text store) 0 old → l ≡ written (output_of (text ++ rest)) 0 old
+    results-laid z h = h ∙ ap (λ (x : List ℕ). written x 0 old) (sym (results-out (kept-accepted (length text) more r (sym (ap (λ (y : Refusal). y.number) w) ∙ z))))
+
+    pub refused-laid : (x.number ≡ 0 → ⊥) → l ≡ written (refused_line x) 0 old → l ≡ written (output_of (text ++ rest)) 0 old
+    refused-laid z h = h ∙ ap (λ (y : List ℕ). written y 0 old) (ap refused_line w ∙ sym (refused-out (kept-refused (λ q. z (ap (λ (y : Refusal). y.number) w ∙ q)))))

@@ -3,26 +3,32 @@
 
 ghost use Rattle.std.specs.Prelude.{◌≡◌, List, ◌++◌, ℕ, ◌≤◌, length};
 ghost use Rattle.laid.specs.Laid.{laid, written};
+ghost use Rattle.judge.specs.Refusals.{numbers_of};
 ghost use Rattle.evaluation.specs.Evaluated.{answer};
 ghost use Rattle.streams.specs.Cut.{CutOff};
 ghost use Rattle.program_output.specs.Output.{alone, output_of};
 
 use evaluate::evaluate;
-use judge::Refusal;
+use judge::Refused;
 use limits::Limits;
 use result_lines::print_results;
 use verdict_lines::{print_refused, whole_refusal};
 
 // The output of a text with answer r, whose values stand in the store.
-fn print_evaluated(text: &[u8], more: usize, r: Refusal, store: &[u64], out: &mut [u8]) -> usize
-    requires { CutOff 65537 (length text.now) more × (1600008 ≤ length out.old) × (length store.now ≡ 8192) × (answer r store.now ≡ alone text.now) }
+fn print_evaluated(
+    text: &[u8],
+    more: usize,
+    r: Result<(), Refused>,
+    store: &[u64],
+    out: &mut [u8],
+) -> usize
+    requires { CutOff 65537 (length text.now) more × (1600008 ≤ length out.old) × (length store.now ≡ 8192) × (answer (numbers_of r) store.now ≡ alone text.now) }
     ensures { (rest : List ℕ) → length rest ≡ more → laid result out.new ≡ written (output_of (text.now ++ rest)) 0 out.old }
 {
-    if r.number == 0 {
-        return print_results(text, store, out);
+    match whole_refusal(text.len(), more, r) {
+        Ok(()) => print_results(text, store, out),
+        Err(e) => print_refused(e, out),
     }
-    let whole = whole_refusal(text.len(), more, r);
-    print_refused(whole, out)
 }
 
 // Evaluates a text and puts what is printed into `out` from its front: how many bytes it has. `text` is the first 65,537 bytes of the whole text, or all of it; `more`

@@ -20,7 +20,7 @@ use Rattle.scan.specs.TensorText.{type_close}
 use Rattle.text.specs.declared.Token.{Token}
 use Rattle.shape.specs.Index.{size, volume}
 use Rattle.shape.specs.Dims.{dims_of}
-use Rattle.types.specs.declared.tensors.TypeRead.{TypeRead}
+use Rattle.types.specs.Tensors.{TypeRead}
 use Rattle.types.specs.Tensors.{element_named, bytes_between, dimensions_from, byte_count as count_of_byte, all_fit, type_size_passed, typed, foreign, type_after, type_of}
 use Rattle.grammar.specs.Symbols.{InputType, ResultType, among_symbols}
 use Rattle.grammar.proofs.TableTest.{both_left, both_right, implies, implied, true-T}

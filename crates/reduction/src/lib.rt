@@ -2,7 +2,7 @@
 #![tactic(auto)]
 
 ghost use Rattle.std.specs.Prelude.{◌≡◌, ◌≤◌, ◌<◌, length, take};
-ghost use Rattle.lists.specs.Lists.{pick, tab};
+ghost use Rattle.lists.specs.Lists.{tab};
 ghost use Rattle.run.specs.Tree.{fold};
 ghost use Rattle.scalar.specs.Body.{body_of};
 ghost use Rattle.shape.specs.Index.{at, size, unravel, element_at, in_six};
@@ -15,24 +15,12 @@ use limits::Limits;
 use scalar::Body;
 use shape::Shape;
 
-fn number(b: bool) -> usize
-    ensures { result ≡ pick b 1 0 }
-{
-    if b { 1 } else { 0 }
-}
-
-fn chosen(b: bool, x: usize, y: usize) -> usize
-    ensures { result ≡ pick b x y }
-{
-    if b { x } else { y }
-}
-
 // Whether dimension d is reduced.
 fn is_in(dimensions: [usize; Limits::LIST], count: usize, d: usize) -> bool
     requires { count ≤ 6 }
     ensures { result ≡ is_in (take count dimensions) d }
 {
-    shape::place_in(dimensions, count, d) < count
+    shape::place_in(dimensions, count, d).is_some()
 }
 
 // The dimensions that are reduced.
@@ -40,13 +28,11 @@ fn slice_shape(from: Shape, dimensions: [usize; Limits::LIST], count: usize) -> 
     requires { (from.rank ≤ 6) × (count ≤ 6) }
     ensures { result ≡ shape_from (slice_shape (take count dimensions) (dims_of from)) }
 {
-    let rank = from.rank;
-    let dims = from.dims;
-    let mut taken = [0usize; Limits::RANK];
+    let mut taken = [0; Limits::RANK];
     let mut n = 0;
-    for d in 0..rank {
+    for d in 0..from.rank {
         if is_in(dimensions, count, d) {
-            taken[n] = dims[d];
+            taken[n] = from.dims[d];
             n += 1;
         }
     }
@@ -67,12 +53,15 @@ fn insert_index(
     requires { (count ≤ 6) × (rank ≤ 6) }
     ensures { result ≡ in_six (tab rank (inserted (take count dimensions) (at j) (at r))) }
 {
-    let mut index = [0usize; Limits::RANK];
+    let mut index = [0; Limits::RANK];
     let mut n = 0;
     for d in 0..rank {
-        let goes = is_in(dimensions, count, d);
-        index[d] = chosen(goes, r[n], j[d - n]);
-        n = n + number(goes);
+        if is_in(dimensions, count, d) {
+            index[d] = r[n];
+            n += 1;
+        } else {
+            index[d] = j[d - n];
+        }
     }
     index
 }
@@ -91,8 +80,7 @@ fn row_element(
     ensures { result ≡ element_at x.now (dims_of from) (tab (length (dims_of from)) (inserted (take count dimensions) (at j) (at (unravel (dims_of inner) q)))) 0 }
 {
     let r = shape::index_at(inner, q);
-    let rank = from.rank;
-    let i = insert_index(dimensions, count, rank, j, r);
+    let i = insert_index(dimensions, count, from.rank, j, r);
     shape::element_at(x, from, i, 0)
 }
 
@@ -154,8 +142,7 @@ pub fn reduce(
     requires { ReduceStretches from to count x.now out.old }
     ensures { out.new ≡ reduced b t (take count dimensions) (dims_of from) (dims_of to) start x.now }
 {
-    let n = out.len();
-    for k in 0..n {
+    for k in 0..out.len() {
         out[k] = reduced_at(b, t, x, from, dimensions, count, start, to, k);
     }
 }

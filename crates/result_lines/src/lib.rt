@@ -46,8 +46,7 @@ fn print_lines(text: &[u8], p: Program, vs: Values, store: &[u64], out: &mut [u8
     requires store_len { (length store.now ≡ 8192) × (1600008 ≤ length out.old) }
     ensures { laid result out.new ≡ written (result_lines text.now store.now) 0 out.old }
 {
-    let ops = p.ops;
-    let op = op_at(text, ops[ops_of(p)]);
+    let op = op_at(text, p.ops[ops_of(p)]);
     let n = vs.count;
     let starts = offsets_of(vs);
     let mut place = 0;

@@ -6,7 +6,7 @@ ghost use Rattle.laid.specs.Laid.{laid, written};
 ghost use Rattle.offsets.specs.Offsets.{ValuesRead, size_at, offset_at};
 ghost use Rattle.results.specs.Results.{line_at, line_of};
 
-use laid::put_byte;
+use laid::put;
 use operands::value_named;
 use places::{Part, place_of};
 use printed::print_dense;
@@ -34,14 +34,10 @@ pub fn print_value(
     requires { (i < 264) × ValuesRead vs × (at ≡ offset_at vs i) × (at + size_at vs i ≤ length slots.now) × (from + 200001 ≤ length out.old) }
     ensures { laid result out.new ≡ written (line_of vs slots.now i) from out.old }
 {
-    let list = vs.list;
-    let v = list[i];
-    let t = v.ty;
-    let e = t.element;
-    let s = t.shape;
-    let end = at + size_of(s);
-    let p = print_dense(e, s, &slots[at..end], out, from);
-    put_byte(out, p, b'\n')
+    let ty = vs.list[i].ty;
+    let end = at + size_of(ty.shape);
+    let p = print_dense(ty.element, ty.shape, &slots[at..end], out, from);
+    put(out, p, b'\n')
 }
 
 // The number of the value that result j names: `op` is the return, before which n values are defined.
@@ -49,5 +45,5 @@ pub fn result_number(text: &[u8], op: Parts, vs: Values, n: usize, j: usize) -> 
     requires { (n ≤ 264) × (j < 8) }
     ensures { result ≡ line_at text.now op vs n j }
 {
-    value_named(text, vs, n, place_of(op, Part::OPERAND_NAME, j))
+    value_named(text, vs, n, place_of(op, Part::OPERAND_NAME, j)).unwrap_or(n)
 }

@@ -1,24 +1,42 @@
--- Turns of the loop that looks for the first broken constraint, and what it says where there is none.
+-- The first broken constraint, and what it says where there is none.
 -- Assumes nothing.
 use mathlib.Core.Path.{◌≡◌, refl, ap, ◌∙◌}
 use mathlib.Core.List.{List, [], ◌∷◌}
-use mathlib.Core.Bool.{Bool, true, false}
-use Prim.Native.Nat.{ℕ, zero, suc, ◌+◌, ◌≤◌, ◌<◌}
-use native.Mathlib.Nat.{not-suc-le-zero, le_of_suc-le-suc, suc-ne-zero}
-use native.Mathlib.Numerals.{add-one}
-use lib.ListN.{length, drop, get_or}
-use lib.Seq.{drop-cons}
-use Rattle.lists.specs.Lists.{pick}
+use mathlib.Core.Bool.{Bool, true, false, not, cond}
+use Prim.Native.Nat.{ℕ, suc, ◌+◌}
+use native.Mathlib.Nat.{suc-ne-zero}
+use borrow.Author.Tests.{lt-ltb, le-ltb, ltb-true, ltb-false}
+use lib.Dec.{ltb}
+use lib.ListN.{length}
+use Rattle.std.specs.List.{position_or_len}
+use Rattle.std.specs.Option.{option_map}
+use Rattle.std.specs.declared.option.Option.TheVariants.{None, Some}
+use native.Mathlib.Omega.{arith}
+use Rattle.rules.specs.Constraint.{constraint_of}
 use Rattle.rule_laws.specs.Broken.{first_from, first_broken}
 
-pub first_step : (c : List Bool) (k : ℕ) → k < length c → first_from (suc k) (drop k c) ≡ pick (get_or c k false) (first_from (suc (k + 1)) (drop (k + 1) c)) (k + 1)
-first_step c k h = ap (first_from (suc k)) (drop-cons c k false h) ∙ rw (add-one k)
+ltb-more : (p l : ℕ) → ltb (1 + p) (suc l) ≡ ltb p l
+ltb-more p l = by (ltb p l) refl
+  where
+    by : (b : Bool) → ltb p l ≡ b → ltb (1 + p) (suc l) ≡ b
+    by true e = lt-ltb _ _ (let h = ltb-true p l e in omega arith)
+    by false e = le-ltb _ _ (let h = ltb-false p l e in omega arith)
 
-pub first-end : (c : List Bool) (k n : ℕ) → length c ≤ k → first_from n (drop k c) ≡ 0
-first-end [] zero n h = refl
-first-end [] (suc k) n h = refl
-first-end (x ∷ c) zero n h = absurd (not-suc-le-zero h)
-first-end (x ∷ c) (suc k) n h = first-end c k n (le_of_suc-le-suc h)
+-- the place of the first test that fails, and its number
+placed : (cs : List Bool) (n : ℕ) → option_map (λ (k : ℕ). k + suc n) (cond (ltb (position_or_len not cs) (length cs)) (Some (position_or_len not cs)) None) ≡ constraint_of (first_from (suc n) cs)
+placed [] n = refl
+placed (false ∷ cs) n = let e : 0 + suc n ≡ suc n = omega arith in rw (lt-ltb 0 (suc (length cs)) (omega arith)) (ap Some e)
+placed (true ∷ cs) n = by (position_or_len not cs) (length cs) (placed cs (suc n))
+  where
+    at : (b : Bool) (p : ℕ) → option_map (λ (k : ℕ). k + suc (suc n)) (cond b (Some p) None) ≡ constraint_of (first_from (suc (suc n)) cs) → option_map (λ (k : ℕ). k + suc n) (cond b (Some (1 + p)) None) ≡ constraint_of (first_from (suc (suc n)) cs)
+    at true p h = let e : 1 + p + suc n ≡ p + suc (suc n) = omega arith in ap Some e ∙ h
+    at false p h = h
+
+    by : (p l : ℕ) → option_map (λ (k : ℕ). k + suc (suc n)) (cond (ltb p l) (Some p) None) ≡ constraint_of (first_from (suc (suc n)) cs) → option_map (λ (k : ℕ). k + suc n) (cond (ltb (1 + p) (suc l)) (Some (1 + p)) None) ≡ constraint_of (first_from (suc (suc n)) cs)
+    by p l h = rw (ltb-more p l) (at (ltb p l) p h)
+
+pub broken-place : (cs : List Bool) → option_map (λ (k : ℕ). k + 1) (cond (ltb (position_or_len not cs) (length cs)) (Some (position_or_len not cs)) None) ≡ constraint_of (first_broken cs)
+broken-place cs = placed cs 0
 
 -- every test of a list holds
 abbrev pub Holds : List Bool → Type 0

@@ -6,3 +6,4 @@ pub mod Algebra
 pub mod Closed
 pub mod Reduce
 pub mod Examples
+pub mod Bytes

@@ -71,9 +71,9 @@ module _ (t : ElementType) {a : ℕ} (h : a < 2 ^ 64) where
   unfolding abs_of
   abs-least n e = rw (n, eq-eqb a (lowest_of t) e)
 
-  pub abs-negative : lt_z (value_of t a) (pos 0) ≡ true → (a ≡ lowest_of t → ⊥) → 18446744073709551615 - a + 1 ≡ abs_of t a
+  pub abs-negative : {r : ℕ} → lt_z (value_of t a) (pos 0) ≡ true → (a ≡ lowest_of t → ⊥) → r < 2 ^ 64 → (r + a) % 2 ^ 64 ≡ 0 → r ≡ abs_of t a
   unfolding abs_of
-  abs-negative n e =
+  abs-negative n e g m =
       let v = value-negative t a n in
       let k : suc (2 ^ 64 - suc a) < 2 ^ 64 = omega (arith, v.1) in
       rw (n, ne_eqb a (lowest_of t) e, v.0, mod-eq_of_lt k) (omega arith)

@@ -5,6 +5,7 @@ use Rattle.element.specs.Types.{lowest_of, highest_of, all_of}
 use Rattle.element.specs.declared.ElementType.{ElementType}
 use Rattle.scalar.specs.Ops.{add_of, multiply_of, maximum_of, minimum_of, and_of, or_of, xor_of}
 use Rattle.scalar.specs.declared.Body.{Body}
+use Rattle.scalar.specs.declared.Binary.{Binary}
 use Rattle.scalar.specs.declared.Body.TheVariants.{Add, Multiply, Maximum, Minimum, And, Or, Xor}
 
 -- "one op of add, multiply, maximum, minimum, and, or, xor"
@@ -16,6 +17,16 @@ body_of Minimum = minimum_of
 body_of And = and_of
 body_of Or = or_of
 body_of Xor = xor_of
+
+-- the op on two values that a body's op is
+abbrev pub binary_from : Body → Binary
+binary_from Add = Binary.Add
+binary_from Multiply = Binary.Multiply
+binary_from Maximum = Binary.Maximum
+binary_from Minimum = Binary.Minimum
+binary_from And = Binary.And
+binary_from Or = Binary.Or
+binary_from Xor = Binary.Xor
 
 -- "Identities: 0 for add, or, xor; 1 for multiply; lowest for maximum; highest for minimum; all bits set for and; on `i1` by the
 -- logical meaning": there false is 0, the lowest, and true is 1, the highest and all bits set

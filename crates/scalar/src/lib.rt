@@ -1,9 +1,9 @@
 // The operations on single values (01, "Element by element").
 #![tactic(auto)]
 
-ghost use Rattle.std.specs.Prelude.{◌≡◌, ◌*◌, ◌%◌, ◌^◌};
+ghost use Rattle.std.specs.Prelude.{◌≡◌};
 ghost use Rattle.scalar.specs.Ops.{add_of, subtract_of, multiply_of, negate_of, iota_of, convert_of, abs_of, sign_of, lt_of, maximum_of, minimum_of, holds, compare_of, not_of, count_leading_zeros_of, popcnt_of, shift_left_of, shift_right_arithmetic_of, shift_right_logical_of, clamp_of, select_of, unary_of, binary_of};
-ghost use Rattle.scalar.specs.Body.{body_of};
+ghost use Rattle.scalar.specs.Body.{body_of, binary_from};
 
 use element::ElementType;
 
@@ -57,46 +57,52 @@ pub enum Body {
     Xor,
 }
 
-// a * b, modulo 2^64, by halves of 32 bits.
-fn wrapping_mul(a: u64, b: u64) -> u64
-    ensures { result ≡ (a * b) % 2 ^ 64 }
-{
-    let ah = a / 0x1_0000_0000;
-    let al = a % 0x1_0000_0000;
-    let bh = b / 0x1_0000_0000;
-    let bl = b % 0x1_0000_0000;
-    let cross = ah * bl % 0x1_0000_0000 + al * bh % 0x1_0000_0000;
-    std::num::wrapping_add_u64(al * bl, cross % 0x1_0000_0000 * 0x1_0000_0000)
+impl From<Body> for Binary {
+    ghost from_gives = { λ op r. r ≡ binary_from op };
+
+    fn from(op: Body) -> Binary {
+        match op {
+            Body::Add => Binary::Add,
+            Body::Multiply => Binary::Multiply,
+            Body::Maximum => Binary::Maximum,
+            Body::Minimum => Binary::Minimum,
+            Body::And => Binary::And,
+            Body::Or => Binary::Or,
+            Body::Xor => Binary::Xor,
+        }
+    }
 }
 
 fn add(t: ElementType, a: u64, b: u64) -> u64
     ensures { result ≡ add_of t a b }
 {
     if t.is_bool() {
-        return a | b;
+        a | b
+    } else {
+        element::fit(t, a.wrapping_add(b))
     }
-    element::fit(t, std::num::wrapping_add_u64(a, b))
 }
 
 fn subtract(t: ElementType, a: u64, b: u64) -> u64
     ensures { result ≡ subtract_of t a b }
 {
-    element::fit(t, std::num::wrapping_sub_u64(a, b))
+    element::fit(t, a.wrapping_sub(b))
 }
 
 fn multiply(t: ElementType, a: u64, b: u64) -> u64
     ensures { result ≡ multiply_of t a b }
 {
     if t.is_bool() {
-        return a & b;
+        a & b
+    } else {
+        element::fit(t, a.wrapping_mul(b))
     }
-    element::fit(t, wrapping_mul(a, b))
 }
 
 fn negate(t: ElementType, a: u64) -> u64
     ensures { result ≡ negate_of t a }
 {
-    element::fit(t, std::num::wrapping_sub_u64(0, a))
+    element::fit(t, a.wrapping_neg())
 }
 
 // Element k of an iota dimension.
@@ -111,36 +117,32 @@ pub fn convert(from: ElementType, to: ElementType, a: u64) -> u64
     ensures { result ≡ convert_of from to a }
 {
     if to.is_bool() {
-        if a == 0 {
-            return 0;
-        }
-        return 1;
+        u64::from(a != 0)
+    } else {
+        element::fit(to, a)
     }
-    element::fit(to, a)
 }
 
 fn abs(t: ElementType, a: u64) -> u64
     ensures { result ≡ abs_of t a }
 {
-    if element::is_negative(t, a) {
-        if a == t.lowest() {
-            return t.highest();
-        }
-        return u64::MAX - a + 1;
+    if !element::is_negative(t, a) {
+        a
+    } else if a == t.lowest() {
+        t.highest()
+    } else {
+        a.wrapping_neg()
     }
-    a
 }
 
 fn sign(t: ElementType, a: u64) -> u64
     ensures { result ≡ sign_of t a }
 {
     if element::is_negative(t, a) {
-        return u64::MAX;
+        u64::MAX
+    } else {
+        u64::from(a != 0)
     }
-    if a == 0 {
-        return 0;
-    }
-    1
 }
 
 // Whether a is below b, by value.
@@ -148,11 +150,10 @@ fn less(t: ElementType, a: u64, b: u64) -> bool
     ensures { result ≡ lt_of t a b }
 {
     if t.is_signed() {
-        let x = element::signed_of(a);
-        let y = element::signed_of(b);
-        return x < y;
+        a.cast_signed() < b.cast_signed()
+    } else {
+        a < b
     }
-    a < b
 }
 
 fn maximum(t: ElementType, a: u64, b: u64) -> u64
@@ -185,7 +186,7 @@ fn compares(d: Direction, t: ElementType, a: u64, b: u64) -> bool
 pub fn compare(d: Direction, t: ElementType, a: u64, b: u64) -> u64
     ensures { result ≡ compare_of d t a b }
 {
-    if compares(d, t, a, b) { 1 } else { 0 }
+    u64::from(compares(d, t, a, b))
 }
 
 // Every bit of the value changed.
@@ -199,49 +200,46 @@ fn count_leading_zeros(t: ElementType, a: u64) -> u64
     ensures { result ≡ count_leading_zeros_of t a }
 {
     let low = a & t.mask();
-    let n = t.width();
-    u64::leading_zeros(low) as u64 - (64 - n)
+    u64::from(low.leading_zeros()) - (64 - t.width())
 }
 
 fn popcnt(t: ElementType, a: u64) -> u64
     ensures { result ≡ popcnt_of t a }
 {
-    let low = a & t.mask();
-    u64::count_ones(low) as u64
+    u64::from((a & t.mask()).count_ones())
 }
 
 fn shift_left(t: ElementType, a: u64, b: u64) -> u64
     ensures { result ≡ shift_left_of t a b }
 {
     if b < t.width() {
-        return element::fit(t, a << b);
+        element::fit(t, a << b)
+    } else {
+        0
     }
-    0
 }
 
 fn shift_right_arithmetic(t: ElementType, a: u64, b: u64) -> u64
     ensures { result ≡ shift_right_arithmetic_of t a b }
 {
-    let n = t.width();
+    let is_within = b < t.width();
     if element::is_negative(t, a) {
-        if b < n {
-            return u64::MAX - ((u64::MAX - a) >> b);
-        }
-        return u64::MAX;
+        if is_within { !(!a >> b) } else { u64::MAX }
+    } else if is_within {
+        a >> b
+    } else {
+        0
     }
-    if b < n {
-        return a >> b;
-    }
-    0
 }
 
 fn shift_right_logical(t: ElementType, a: u64, b: u64) -> u64
     ensures { result ≡ shift_right_logical_of t a b }
 {
     if b < t.width() {
-        return element::fit(t, (a & t.mask()) >> b);
+        element::fit(t, (a & t.mask()) >> b)
+    } else {
+        0
     }
-    0
 }
 
 // x brought to min and max; max where min exceeds it.
@@ -295,13 +293,5 @@ pub fn apply_binary(op: Binary, t: ElementType, a: u64, b: u64) -> u64
 pub fn apply_body(op: Body, t: ElementType, a: u64, b: u64) -> u64
     ensures { result ≡ body_of op t a b }
 {
-    match op {
-        Body::Add => add(t, a, b),
-        Body::Multiply => multiply(t, a, b),
-        Body::Maximum => maximum(t, a, b),
-        Body::Minimum => minimum(t, a, b),
-        Body::And => a & b,
-        Body::Or => a | b,
-        Body::Xor => a ^ b,
-    }
+    apply_binary(Binary::from(op), t, a, b)
 }

@@ -1,15 +1,16 @@
 -- Laws of runs, of starting words and of white space, as the loops use them.
 -- Assumes nothing.
-use mathlib.Core.Path.{◌≡◌, refl, sym, ◌∙◌}
+use mathlib.Core.Path.{◌≡◌, refl, sym, ap, ◌∙◌}
 use mathlib.Core.Bool.{Bool, true, false, not, ◌&&◌, ◌||◌}
 use mathlib.Core.List.{List, [], ◌∷◌}
-use Prim.Native.Nat.{ℕ, ◌+◌, ◌-◌, ◌<◌, ◌≤◌}
+use Prim.Native.Nat.{ℕ, suc, max, ◌+◌, ◌-◌, ◌<◌, ◌≤◌}
 use native.Mathlib.Omega.{arith}
 use native.Mathlib.Numerals.{add-one}
 use native.Mathlib.Decide.{dec_lt}
-use lib.ListN.{length, get_or, drop, drop_of_length-le, length-drop, get_or-eq_default}
+use lib.Pointwise.{pointwise}
+use lib.ListN.{length, get_or, take, drop, drop_of_length-le, length-drop, get_or-eq_default}
 use lib.Dec.{eqb}
-use lib.Seq.{drop-cons}
+use lib.Seq.{drop-cons, drop-drop}
 use borrow.Author.Tests.{eq-eqb, ne_eqb}
 use Rattle.lists.specs.Lists.{pick}
 use Rattle.scan.specs.Bytes.{byte_at, is_space, in_run, run_from, run_end, starts_with, in_comment, skip_from}
@@ -35,36 +36,35 @@ pub byte_inside : {r b : ℕ} (text : List ℕ) (at : ℕ) → r ≡ byte_at tex
 byte_inside {r} {b} text at e q h =
     test-inside (λ x. eqb x b) text at (ne_eqb 0 b (omega arith)) (eq-eqb (byte_at text at) b (sym e ∙ q))
 
-module _ (letters : Bool) (text : List ℕ) (i : ℕ) where
-  pub run_more : i < length text → in_run letters (get_or text i 0) ≡ true → run_end letters text (i + 1) ≡ run_end letters text i
-  unfolding run_end run_from
-  run_more h p = rw (add-one, drop-cons text i 0, p)
+-- the rest of the text from a place on, from its byte k on
+pub tail-drop : (k at : ℕ) (text : List ℕ) {items : List ℕ} → items ≡ drop at text → drop k items ≡ drop (at + k) text
+tail-drop k at text e = rw e (drop-drop k at text)
 
-  pub run-stop : i < length text → in_run letters (get_or text i 0) ≡ false → run_end letters text i ≡ i
-  unfolding run_end run_from
-  run-stop h p = rw (drop-cons text i 0, p)
+-- its end
+pub tail-end : (k at : ℕ) (text items : List ℕ) → items ≡ drop at text → k ≤ length items → length items ≤ k → at + k ≡ max at (length text)
+tail-end k at text items e h g = let n : length items ≡ length text - at = ap length e ∙ length-drop at text in omega arith
 
-  pub run_past : length text ≤ i → run_end letters text i ≡ i
-  unfolding run_end run_from
+-- after k bytes of the list, whose first has place at
+module _ (letters : Bool) (xs : List ℕ) (at k : ℕ) where
+  pub run-step : k < length xs → run_from letters (at + k) (drop k xs) ≡
+      pick (in_run letters (get_or xs k 0)) (run_from letters (at + (k + 1)) (drop (k + 1) xs)) (at + k)
+  unfolding run_from
+  run-step h = let e : at + (k + 1) ≡ suc (at + k) = omega arith in rw (e, add-one k, drop-cons xs k 0)
+
+  pub run_past : length xs ≤ k → run_from letters (at + k) (drop k xs) ≡ at + k
+  unfolding run_from
   run_past h = rw drop_of_length-le
 
-pub starts_none : (ws s : List ℕ) (k : ℕ) → length ws ≤ k → starts_with (drop k ws) s ≡ true
+pub run_more : (letters : Bool) (text : List ℕ) (at : ℕ) → at < length text → in_run letters (get_or text at 0) ≡ true → run_end letters text (at + 1) ≡ run_end letters text at
+unfolding run_end run_from
+run_more letters text at h p = rw (add-one, drop-cons text at 0, p)
+
+-- `starts_with` of slices
+pub starts-same : (ws s : List ℕ) → pointwise eqb ws (take (length ws) s) ≡ starts_with ws s
 unfolding starts_with
-starts_none ws s k h = rw drop_of_length-le
-
-module _ (ws s : List ℕ) (k i : ℕ) where
-  pub starts-end : k < length ws → length s ≤ i → starts_with (drop k ws) (drop i s) ≡ false
-  unfolding starts_with
-  starts-end h g = rw (drop-cons ws k 0, drop_of_length-le s g)
-
-  pub starts_more : k < length ws → i < length s → get_or ws k 0 ≡ get_or s i 0
-      → starts_with (drop (k + 1) ws) (drop (i + 1) s) ≡ starts_with (drop k ws) (drop i s)
-  unfolding starts_with
-  starts_more h g e = rw (add-one, add-one, drop-cons ws k 0, drop-cons s i 0, eq-eqb _ _ e)
-
-  pub starts-not : k < length ws → i < length s → (get_or ws k 0 ≡ get_or s i 0 → ⊥) → starts_with (drop k ws) (drop i s) ≡ false
-  unfolding starts_with
-  starts-not h g e = rw (drop-cons ws k 0, drop-cons s i 0, ne_eqb _ _ e)
+starts-same [] s = refl
+starts-same (w ∷ ws) [] = refl
+starts-same (w ∷ ws) (b ∷ bs) = ap (λ (t : Bool). eqb w b && t) (starts-same ws bs)
 
 -- a word that stands somewhere stands in the text
 starts-fits : (ws s : List ℕ) → starts_with ws s ≡ true → length ws ≤ length s
@@ -80,13 +80,14 @@ starts-fits (w ∷ ws) (b ∷ bs) e = let h = starts-fits ws bs (second (eqb w b
 pub starts-inside : (ws text : List ℕ) (at : ℕ) → starts_with ws (drop at text) ≡ true → length ws ≤ length text - at
 starts-inside ws text at e = let h = starts-fits ws (drop at text) e in rw length-drop at h
 
-module _ (text : List ℕ) (i : ℕ) where
-  pub skip-past : (begun : Bool) → length text ≤ i → skip_from begun i (drop i text) ≡ i
+-- after k bytes of the list, whose first has place at
+module _ (xs : List ℕ) (at k : ℕ) (begun : Bool) where
+  pub skip_step : k < length xs → skip_from begun (at + k) (drop k xs) ≡
+      (let comment = in_comment begun (drop k xs) in
+      pick (comment || is_space (get_or xs k 0)) (skip_from (pick begun (not (eqb (get_or xs k 0) 10)) comment) (at + (k + 1)) (drop (k + 1) xs)) (at + k))
   unfolding skip_from
-  skip-past begun h = rw drop_of_length-le
+  skip_step h = let e : at + (k + 1) ≡ suc (at + k) = omega arith in rw (e, add-one k, drop-cons xs k 0)
 
-  pub skip_step : (begun : Bool) → i < length text → skip_from begun i (drop i text) ≡
-      (let comment = in_comment begun (drop i text) in
-      pick (comment || is_space (get_or text i 0)) (skip_from (pick begun (not (eqb (get_or text i 0) 10)) comment) (i + 1) (drop (i + 1) text)) i)
+  pub skip-past : length xs ≤ k → skip_from begun (at + k) (drop k xs) ≡ at + k
   unfolding skip_from
-  skip_step begun h = rw (add-one, drop-cons text i 0)
+  skip-past h = rw drop_of_length-le

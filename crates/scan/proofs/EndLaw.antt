@@ -50,7 +50,7 @@ module _ (n : ℕ) (text : List ℕ) (short : n ≤ length text) where
   unfolding digits_end
   digits-ge at h = pick-ge (is_digit (byte_at text at)) _ _ _ (run-ge false text at n h) short
 
-  shape-ge : (at : ℕ) → n ≤ at → n ≤ shape_end text at
+  pub shape-ge : (at : ℕ) → n ≤ at → n ≤ shape_end text at
   unfolding shape_end
   shape-ge at h = shape-from-ge n (drop at text) at 0 at h h
 

@@ -1,9 +1,12 @@
 -- A tensor type as one token, by 000's productions. Each is known by its end, the place after its last byte. Where a production does not stand here,
 -- its end is the end of the text: nothing stands there, so that nothing after it is found, and a tensor type, which ends in '>', is not found.
 -- Assumes nothing.
-use Rattle.std.specs.Prelude.{ℕ, suc, ◌+◌, List, [], ◌∷◌, true, false, length, drop, ltb, leb, eqb}
+use Rattle.std.specs.Prelude.{ℕ, suc, ◌+◌, List, [], ◌∷◌, true, false, length, drop, ltb, leb, eqb, Some, None}
+use Rattle.std.specs.Prelude.{Option}
 use Rattle.lists.specs.Lists.{pick}
 use Rattle.scan.specs.Bytes.{byte_at, is_letter, is_digit, run_end}
+use Rattle.scan.specs.declared.typetext.Dimension.{Dimension}
+use Rattle.scan.specs.declared.typetext.Dimension.TheVariants.{Whole, Digits, Unknown}
 
 -- one byte
 unfoldable pub byte_end : ℕ → List ℕ → ℕ → ℕ
@@ -24,6 +27,13 @@ size_next size b =
     pick (is_digit b) (pick (ltb size 2) 1 3)
     (pick (eqb size 0) (pick (eqb b 63) 2 3)
     (pick (eqb b 120) 0 3))
+
+-- the same as the code holds it
+abbrev pub size_number : Option Dimension → ℕ
+size_number (Some Whole) = 0
+size_number (Some Digits) = 1
+size_number (Some Unknown) = 2
+size_number None = 3
 
 -- the end of the last whole dimension, where end is that of the one before
 unfoldable pub shape_end_from : ℕ → ℕ → ℕ → List ℕ → ℕ

@@ -10,9 +10,10 @@ pub fn sign_end(text: &[u8], at: usize) -> usize
     ensures { result ≡ sign_end text.now at }
 {
     if is_sign(byte_at(text, at)) {
-        return at + 1;
+        at + 1
+    } else {
+        at
     }
-    at
 }
 
 // IntegerLiteral ::= ['-' | '+'] DecimalDigits.
@@ -27,23 +28,21 @@ fn fraction_end(text: &[u8], at: usize) -> usize
     ensures { result ≡ fraction_end text.now at }
 {
     if byte_at(text, at) == b'.' {
-        return run_end(text, false, at + 1);
+        run_end(text, false, at + 1)
+    } else {
+        at
     }
-    at
 }
 
 // ScientificPart ::= [('e' | 'E') ['-' | '+'] DecimalDigits].
 fn scientific_end(text: &[u8], at: usize) -> usize
     ensures { result ≡ scientific_end text.now at }
 {
-    let b = byte_at(text, at);
-    if b == b'e' {
-        return integer_end(text, at + 1);
+    if matches!(byte_at(text, at), b'e' | b'E') {
+        integer_end(text, at + 1)
+    } else {
+        at
     }
-    if b == b'E' {
-        return integer_end(text, at + 1);
-    }
-    at
 }
 
 // FloatLiteral ::= SignPart IntegerPart FractionalPart ScientificPart.
@@ -58,9 +57,10 @@ fn colon_end(text: &[u8], at: usize) -> usize
     ensures { result ≡ colon_end text.now at }
 {
     if byte_at(text, at) == b':' {
-        return integer_end(text, at + 1);
+        integer_end(text, at + 1)
+    } else {
+        at
     }
-    at
 }
 
 // QuantizationParameter ::= QuantizationScale [':' QuantizationZeroPoint].
@@ -75,14 +75,11 @@ fn more_end(text: &[u8], at: usize) -> usize
     ensures { result ≡ more_end (length text.now) text.now at }
 {
     let mut i = at;
-    let mut left = text.len();
-    while 0 < left {
-        if byte_at(text, i) == b',' {
-            i = parameter_end(text, i + 1);
-            left -= 1;
-        } else {
+    for _ in 0..text.len() {
+        if byte_at(text, i) != b',' {
             return i;
         }
+        i = parameter_end(text, i + 1);
     }
     i
 }
@@ -92,9 +89,10 @@ fn parameters_end(text: &[u8], at: usize) -> usize
     ensures { result ≡ parameters_end text.now at }
 {
     if byte_at(text, at) == b'{' {
-        return byte_end(text, more_end(text, parameter_end(text, at + 1)), b'}');
+        byte_end(text, more_end(text, parameter_end(text, at + 1)), b'}')
+    } else {
+        parameter_end(text, at)
     }
-    parameter_end(text, at)
 }
 
 // ['<' QuantizationStorageMin ':' QuantizationStorageMax '>'].
@@ -103,9 +101,10 @@ fn storage_end(text: &[u8], at: usize) -> usize
 {
     if byte_at(text, at) == b'<' {
         let colon = byte_end(text, integer_end(text, at + 1), b':');
-        return byte_end(text, integer_end(text, colon), b'>');
+        byte_end(text, integer_end(text, colon), b'>')
+    } else {
+        at
     }
-    at
 }
 
 // The whole of it, after `!quant.uniform<`.

@@ -1,23 +1,19 @@
 // 000's TensorType as one token, by the ends of its productions. A production that does not stand here ends at the end of the text.
-ghost use Rattle.std.specs.Prelude.{◌≡◌, drop};
-ghost use Rattle.scan.specs.Ascii.{ascii};
-ghost use Rattle.scan.specs.Bytes.{starts_with};
-ghost use Rattle.scan.specs.TypeText.{byte_end, word_end, digits_end, size_next, shape_end, complex_end};
+ghost use Rattle.std.specs.Prelude.{◌≡◌, Some};
+ghost use Rattle.scan.specs.TypeText.{byte_end, word_end, digits_end, size_next, size_number, shape_end, complex_end};
 ghost use Rattle.scan.specs.TensorText.{element_end, type_close};
 
-use crate::bytes::{byte_at, is_digit, is_letter, run_end, starts};
+use crate::bytes::{byte_at, is_digit, is_letter, run_end, starts, tail};
 use crate::quantized::quantized_end;
 
 pub fn byte_end(text: &[u8], at: usize, b: u8) -> usize
     ensures { result ≡ byte_end b text.now at }
 {
-    if text.len() <= at {
-        return text.len();
+    if at < text.len() && text[at] == b {
+        at + 1
+    } else {
+        text.len()
     }
-    if text[at] == b {
-        return at + 1;
-    }
-    text.len()
 }
 
 // letter {letter | digit}
@@ -25,9 +21,10 @@ pub fn word_end(text: &[u8], at: usize) -> usize
     ensures { result ≡ word_end text.now at }
 {
     if is_letter(byte_at(text, at)) {
-        return run_end(text, true, at);
+        run_end(text, true, at)
+    } else {
+        text.len()
     }
-    text.len()
 }
 
 // digit {digit}
@@ -35,31 +32,30 @@ pub fn digits_end(text: &[u8], at: usize) -> usize
     ensures { result ≡ digits_end text.now at }
 {
     if is_digit(byte_at(text, at)) {
-        return run_end(text, false, at);
+        run_end(text, false, at)
+    } else {
+        text.len()
     }
-    text.len()
 }
 
-// What has been read of a dimension after the byte `b`: 0 nothing, or all of it with its 'x'; 1 digits; 2 a '?'; 3 `b` does not go on with it.
-fn size_next(size: u8, b: u8) -> u8
-    ensures { result ≡ size_next size b }
+// What has been read of a dimension: nothing, or all of it with its 'x'; digits; a '?'.
+#[derive(Clone, Copy)]
+enum Dimension {
+    Whole,
+    Digits,
+    Unknown,
+}
+
+// What has been read of a dimension after the byte `b`, if `b` goes on with it.
+fn size_next(size: Dimension, b: u8) -> Option<Dimension>
+    ensures { size_number result ≡ size_next (size_number (Some size)) b }
 {
-    if is_digit(b) {
-        if size < 2 {
-            return 1;
-        }
-        return 3;
+    match (size, b) {
+        (Dimension::Whole | Dimension::Digits, b'0'..=b'9') => Some(Dimension::Digits),
+        (Dimension::Whole, b'?') => Some(Dimension::Unknown),
+        (Dimension::Digits | Dimension::Unknown, b'x') => Some(Dimension::Whole),
+        _ => None,
     }
-    if size == 0 {
-        if b == b'?' {
-            return 2;
-        }
-        return 3;
-    }
-    if b == b'x' {
-        return 0;
-    }
-    3
 }
 
 // Shape ::= {DimensionSize 'x'}.
@@ -67,16 +63,14 @@ pub fn shape_end(text: &[u8], at: usize) -> usize
     ensures { result ≡ shape_end text.now at }
 {
     let mut end = at;
-    let mut size: u8 = 0;
-    let mut i = at;
-    while i < text.len() {
-        size = size_next(size, text[i]);
-        if size == 3 {
-            return end;
-        }
-        i += 1;
-        if size == 0 {
-            end = i;
+    let mut size = Dimension::Whole;
+    for (i, b) in tail(text, at).iter().enumerate() {
+        size = match size_next(size, *b) {
+            Some(next) => next,
+            None => return end,
+        };
+        if let Dimension::Whole = size {
+            end = at + i + 1;
         }
     }
     end
@@ -89,35 +83,17 @@ fn complex_end(text: &[u8], at: usize) -> usize
     byte_end(text, word_end(text, at), b'>')
 }
 
-pub fn opens_tensor(text: &[u8], at: usize) -> bool
-    ensures { result ≡ starts_with (ascii "tensor<") (drop at text.now) }
-{
-    starts(text, at, b"tensor<")
-}
-
-fn opens_complex(text: &[u8], at: usize) -> bool
-    ensures { result ≡ starts_with (ascii "complex<") (drop at text.now) }
-{
-    starts(text, at, b"complex<")
-}
-
-fn opens_quantized(text: &[u8], at: usize) -> bool
-    ensures { result ≡ starts_with (ascii "!quant.uniform<") (drop at text.now) }
-{
-    starts(text, at, b"!quant.uniform<")
-}
-
 // TensorElementType or QuantizedTensorElementType.
 fn element_end(text: &[u8], at: usize) -> usize
     ensures { result ≡ element_end text.now at }
 {
-    if opens_complex(text, at) {
-        return complex_end(text, at + 8);
+    if starts(text, at, b"complex<") {
+        complex_end(text, at + 8)
+    } else if starts(text, at, b"!quant.uniform<") {
+        quantized_end(text, at + 15)
+    } else {
+        word_end(text, at)
     }
-    if opens_quantized(text, at) {
-        return quantized_end(text, at + 15);
-    }
-    word_end(text, at)
 }
 
 // Shape and element: the place of the type's '>', from after `tensor<`.

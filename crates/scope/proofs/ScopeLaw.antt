@@ -1,7 +1,6 @@
 -- Laws of the entries in an array, from top to its end: searching, settling, forgetting; and of the answers one after another.
 -- Assumes nothing.
 use mathlib.Core.Path.{◌≡◌, refl, sym, ap, ◌∙◌}
-use mathlib.Core.Logic.{◌≢◌}
 use mathlib.Core.List.{List, [], ◌∷◌}
 use mathlib.Core.Bool.{Bool, true, false}
 use Prim.Native.Nat.{ℕ, zero, suc, ◌+◌, ◌-◌, ◌<◌, ◌≤◌}
@@ -11,7 +10,7 @@ use native.Mathlib.Numerals.{add-one}
 use lib.Dec.{ltb, eqb}
 use lib.ListN.{length, get_or, set, drop, length-drop, length-set, drop_of_length-le}
 use lib.Seq.{drop-cons, drop-drop, get_or-drop, get_or-set_other}
-use borrow.Author.Tests.{eq-eqb, ne_eqb, eqb-false}
+use borrow.Author.Tests.{eqb-false}
 use Rattle.lists.specs.Lists.{pick}
 use Rattle.text.specs.declared.Token.{Token}
 use Rattle.grammar.proofs.StackLaw.{drop-put}
@@ -23,7 +22,10 @@ use Rattle.grammar.specs.Machine.{fails, cell, step}
 use Rattle.syntax.specs.Kinds.{kind_of}
 use Rattle.syntax.specs.Readings.{Reading, reading, readings_from, readings_of}
 use Rattle.syntax.proofs.ReadingLaw.{Room}
-use Rattle.scope.specs.declared.Names.{Names}
+use Rattle.std.specs.Prelude.{Result, Ok, Err}
+use Rattle.scope.specs.declared.BadName.{BadName}
+use Rattle.scope.specs.declared.BadName.TheVariants.{Undefined, Redefined}
+use Rattle.scope.specs.Faults.{name_numbers}
 use Rattle.scope.specs.Scope.{Scope, scope, fault, fault_of, and_then, body, waiting_name, defines, visible, define, settle, forget, begins, ends, placed, turned, names_from, inputs_from}
 use Rattle.scope.specs.Scoped.{answered, ScopeAnswered, waiting_count}
 
@@ -171,51 +173,47 @@ settling-end {text} {before} {after} {top} {k} s h =
     let e : k ≡ top = omega arith in
     sym (rw (← e) s.settled)
 
--- an answer without a refusal, and one with
-pub fine : (r : Names) (entries : List ℕ) → r.refusal ≡ 0 → answered r entries ≡ scope (drop r.top entries)
-unfolding answered
-fine r entries e = rw (eq-eqb _ _ e)
+-- an answer with a refusal
+refused : (e : BadName) (entries : List ℕ) (f : List ℕ → Scope) → and_then (answered (Err e) entries) f ≡ answered (Err e) entries
+refused (Undefined a) entries f = refl
+refused (Redefined a) entries f = refl
 
-refused : (r : Names) (entries : List ℕ) (f : List ℕ → Scope) → r.refusal ≢ 0 → and_then (answered r entries) f ≡ answered r entries
-unfolding answered
-refused r entries f e = rw (ne_eqb _ _ e)
-
-pub rescope : {s z : Scope} {k j : ℕ} {before : List ℕ} {top : ℕ} {r : Names} {after : List ℕ} → s ≡ z → k ≤ j → ScopeAnswered s k before top r after → ScopeAnswered z j before top r after
+pub rescope : {s z : Scope} {k j : ℕ} {before : List ℕ} {top : ℕ} {r : Result ℕ BadName} {after : List ℕ} → s ≡ z → k ≤ j →
+    ScopeAnswered s k before top r after → ScopeAnswered z j before top r after
 rescope e h t = let m = t.room in record { answer = t.answer ∙ e; size = t.size; room = omega arith; within = t.within }
 
 -- a name put on top
 pub pushed : (l : List ℕ) (top entry : ℕ) → 1 ≤ top → top ≤ length l →
-    ScopeAnswered (scope (entry ∷ drop top l)) 1 l top (record { refusal = 0; a = 0; top = top - 1 }) (set l (top - 1) entry)
-unfolding answered
+    ScopeAnswered (scope (entry ∷ drop top l)) 1 l top (Ok (top - 1)) (set l (top - 1) entry)
 pushed l top entry h g =
     let e : top - 1 + 1 ≡ top = omega arith in
     let n = length-set l (top - 1) entry in
     let p = drop-put l (top - 1) entry (omega arith) in
     record { answer = rw (p, e); size = n; room = omega arith; within = omega arith }
 
-module _ {s : Scope} {k : ℕ} {before : List ℕ} {top : ℕ} {r : Names} {middle : List ℕ} (t : ScopeAnswered s k before top r middle) (f : List ℕ → Scope) where
-  pub goes_on : {j : ℕ} {z : Names} {after : List ℕ} → r.refusal ≡ 0 → ScopeAnswered (f (drop r.top middle)) j middle r.top z after → ScopeAnswered (and_then s f) (k + j) before top z after
-  goes_on e n =
+module _ {s : Scope} {k : ℕ} {before : List ℕ} {top : ℕ} {middle : List ℕ} (f : List ℕ → Scope) where
+  pub goes_on : {m j : ℕ} {after : List ℕ} (z : Result ℕ BadName) → ScopeAnswered s k before top (Ok m) middle → ScopeAnswered (f (drop m middle)) j middle m z after →
+      ScopeAnswered (and_then s f) (k + j) before top z after
+  goes_on {m} {j} {after} (Ok r) t n =
       let a = t.room in
       let b = n.room in
-      record {
-        answer = n.answer ∙ ap (λ x. and_then x f) (sym (fine r middle e) ∙ t.answer);
-        size = n.size ∙ t.size;
-        room = omega arith;
-        within = n.within;
-      }
+      record { answer = n.answer ∙ ap (λ x. and_then x f) t.answer; size = n.size ∙ t.size; room = omega arith; within = n.within }
+  goes_on {m} {j} {after} (Err e) t n =
+      record { answer = n.answer ∙ ap (λ x. and_then x f) t.answer; size = n.size ∙ t.size; room = omega arith; within = n.within }
 
-  pub stops : r.refusal ≢ 0 → ScopeAnswered (and_then s f) k before top r middle
-  stops e = record { answer = sym (refused r middle f e) ∙ ap (λ x. and_then x f) t.answer; size = t.size; room = t.room; within = t.within }
+  pub stops : (e : BadName) → ScopeAnswered s k before top (Err e) middle → ScopeAnswered (and_then s f) k before top (Err e) middle
+  stops e t = record { answer = sym (refused e middle f) ∙ ap (λ x. and_then x f) t.answer; size = t.size; room = t.room; within = t.within }
 
 -- the fault does not depend on the entries
-pub said : {s : Scope} {k : ℕ} {before : List ℕ} {top : ℕ} {r : Names} {after : List ℕ} → ScopeAnswered s k before top r after → fault_of (answered r []) ≡ fault_of s
-unfolding answered fault_of
-said {r} {after} g = go (eqb r.refusal 0) ∙ ap fault_of g.answer
-  where
-    go : (b : Bool) → fault_of (pick b (scope (drop r.top [])) (fault r.refusal r.a)) ≡ fault_of (pick b (scope (drop r.top after)) (fault r.refusal r.a))
-    go true = refl
-    go false = refl
+pub said : {s : Scope} {k : ℕ} {before : List ℕ} {top m : ℕ} {after : List ℕ} → ScopeAnswered s k before top (Ok m) after → name_numbers (Ok tt) ≡ fault_of s
+unfolding fault_of
+said g = ap fault_of g.answer
+
+pub said_bad : {s : Scope} {k : ℕ} {before : List ℕ} {top : ℕ} {after : List ℕ} (e : BadName) → ScopeAnswered s k before top (Err e) after →
+    name_numbers (Err e) ≡ fault_of s
+unfolding fault_of
+said_bad (Undefined a) g = ap fault_of g.answer
+said_bad (Redefined a) g = ap fault_of g.answer
 
 names-next : (text : List ℕ) (before : ℕ) (es : List ℕ) (f : Bool) (role : ℕ) (t : Token) (xs : List Reading) →
     names_from text before es (reading f role t ∷ xs) ≡ and_then (turned text before role t.start es) (λ rest. names_from text role rest xs)
@@ -255,53 +253,46 @@ past_end text es at h =
     rw (add-one, e, f) (names-stop text 0 es (token_at text at))
 
 -- the loop over an op's tokens: the names from here on are those from the start
-pub record Naming (target : Scope) (text first : List ℕ) (top : ℕ) (stack : List ℕ) (next place left before : ℕ) (n : Names) (entries : List ℕ) : Type 0 where
-  pub same : names_from text before (drop n.top entries) (readings_from left (drop next stack) text place) ≡ target
-  pub sound : n.refusal ≡ 0
+pub record Naming (target : Scope) (text first : List ℕ) (top : ℕ) (stack : List ℕ) (next place left before n : ℕ) (entries : List ℕ) : Type 0 where
+  pub same : names_from text before (drop n entries) (readings_from left (drop next stack) text place) ≡ target
   pub machine : Room left next stack
   pub full : length stack ≡ 655380
   pub size : length entries ≡ length first
-  pub free : left ≤ n.top
-  pub used : top + left ≤ n.top + length text + 1
-  pub within : n.top ≤ length entries
+  pub free : left ≤ n
+  pub used : top + left ≤ n + length text + 1
+  pub within : n ≤ length entries
   pub inside : place ≤ length text
 
-module _ {target : Scope} {text first : List ℕ} {top : ℕ} {stack : List ℕ} {next place left before : ℕ} {n : Names} {entries : List ℕ} (g : Naming target text first top stack next place left before n entries) where
-  pub naming-end : (xs : List Reading) → readings_from left (drop next stack) text place ≡ xs → names_from text before (drop n.top entries) xs ≡ scope (drop n.top entries) →
-      ScopeAnswered target (length text + 1) first top n entries
+module _ {target : Scope} {text first : List ℕ} {top : ℕ} {stack : List ℕ} {next place left before n : ℕ} {entries : List ℕ} (g : Naming target text first top stack next place left before n entries) where
+  pub naming-end : (xs : List Reading) → readings_from left (drop next stack) text place ≡ xs → names_from text before (drop n entries) xs ≡ scope (drop n entries) →
+      ScopeAnswered target (length text + 1) first top (Ok n) entries
   naming-end xs e q =
       let u = g.used in
-      record {
-        answer = fine n entries g.sound ∙ sym q ∙ ap (names_from text before (drop n.top entries)) (sym e) ∙ g.same;
-        size = g.size;
-        room = omega arith;
-        within = g.within;
-      }
+      record { answer = sym q ∙ ap (names_from text before (drop n entries)) (sym e) ∙ g.same; size = g.size; room = omega arith; within = g.within }
 
-  module _ (role : ℕ) (t : Token) (rest : List Reading) (e : readings_from left (drop next stack) text place ≡ reading true role t ∷ rest) {z : Names} {after : List ℕ}
-      (s : ScopeAnswered (turned text before role t.start (drop n.top entries)) 1 entries n.top z after) (some : 0 < left) where
-    whole : and_then (answered z after) (λ es. names_from text role es rest) ≡ target
-    whole =
+  module _ (role : ℕ) (t : Token) (rest : List Reading) (e : readings_from left (drop next stack) text place ≡ reading true role t ∷ rest) where
+    whole : {z : Result ℕ BadName} {after : List ℕ} → ScopeAnswered (turned text before role t.start (drop n entries)) 1 entries n z after →
+        and_then (answered z after) (λ es. names_from text role es rest) ≡ target
+    whole s =
         ap (λ x. and_then x (λ es. names_from text role es rest)) s.answer ∙
-        sym (names-next text before (drop n.top entries) true role t rest) ∙
-        ap (names_from text before (drop n.top entries)) (sym e) ∙
+        sym (names-next text before (drop n entries) true role t rest) ∙
+        ap (names_from text before (drop n entries)) (sym e) ∙
         g.same
 
-    pub naming-fault : z.refusal ≢ 0 → ScopeAnswered target (length text + 1) first top z after
-    naming-fault h =
-        let u = g.used in
-        let m = s.room in
-        record { answer = sym (refused z after (λ es. names_from text role es rest) h) ∙ whole; size = s.size ∙ g.size; room = omega arith; within = s.within }
+    pub naming-fault : (bad : BadName) {after : List ℕ} → ScopeAnswered (turned text before role t.start (drop n entries)) 1 entries n (Err bad) after →
+        ScopeAnswered target (length text + 1) first top (Err bad) after
+    naming-fault bad {after} s =
+        record { answer = sym (refused bad after (λ es. names_from text role es rest)) ∙ whole s; size = s.size ∙ g.size; room = omega arith; within = s.within }
 
-    pub naming-next : {later : List ℕ} {beyond : ℕ} → z.refusal ≡ 0 → rest ≡ readings_from (left - 1) (drop beyond later) text t.end →
-        Room (left - 1) beyond later → length later ≡ 655380 → t.end ≤ length text → Naming target text first top later beyond t.end (left - 1) role z after
-    naming-next h q w f i =
+    pub naming-next : {m : ℕ} {after : List ℕ} → ScopeAnswered (turned text before role t.start (drop n entries)) 1 entries n (Ok m) after → 0 < left →
+        (later : List ℕ) (beyond fewer : ℕ) → fewer ≡ left - 1 → rest ≡ readings_from fewer (drop beyond later) text t.end →
+        Room fewer beyond later → length later ≡ 655380 → t.end ≤ length text → Naming target text first top later beyond t.end fewer role m after
+    naming-next {m} {after} s some later beyond fewer k q w f i =
         let u = g.used in
         let v = g.free in
-        let m = s.room in
+        let r = s.room in
         record {
-          same = ap (names_from text role (drop z.top after)) (sym q) ∙ ap (λ x. and_then x (λ es. names_from text role es rest)) (sym (fine z after h)) ∙ whole;
-          sound = h;
+          same = ap (names_from text role (drop m after)) (sym q) ∙ whole s;
           machine = w;
           full = f;
           size = s.size ∙ g.size;
@@ -321,40 +312,33 @@ unfolding inputs_from
 inputs_end text es l i h = rw (drop_of_length-le l h)
 
 -- the loop over the inputs' places
-pub record Inputs (text first : List ℕ) (top : ℕ) (places : List ℕ) (i : ℕ) (n : Names) (entries : List ℕ) : Type 0 where
-  pub same : inputs_from text (drop n.top entries) (drop i places) ≡ inputs_from text (drop top first) places
-  pub sound : n.refusal ≡ 0
+pub record Inputs (text first : List ℕ) (top : ℕ) (places : List ℕ) (i n : ℕ) (entries : List ℕ) : Type 0 where
+  pub same : inputs_from text (drop n entries) (drop i places) ≡ inputs_from text (drop top first) places
   pub size : length entries ≡ length first
-  pub used : top ≤ n.top + i
-  pub within : n.top ≤ length entries
+  pub used : top ≤ n + i
+  pub within : n ≤ length entries
   pub inside : i ≤ length places
 
-module _ {text first : List ℕ} {top : ℕ} {places : List ℕ} {i : ℕ} {n : Names} {entries : List ℕ} (g : Inputs text first top places i n entries) where
-  pub inputs-done : length places ≤ i → ScopeAnswered (inputs_from text (drop top first) places) (length places) first top n entries
+module _ {text first : List ℕ} {top : ℕ} {places : List ℕ} {i n : ℕ} {entries : List ℕ} (g : Inputs text first top places i n entries) where
+  pub inputs-done : length places ≤ i → ScopeAnswered (inputs_from text (drop top first) places) (length places) first top (Ok n) entries
   inputs-done h =
       let u = g.used in
       let d = g.inside in
-      record { answer = fine n entries g.sound ∙ sym (inputs_end text _ places i h) ∙ g.same; size = g.size; room = omega arith; within = g.within }
+      record { answer = sym (inputs_end text _ places i h) ∙ g.same; size = g.size; room = omega arith; within = g.within }
 
-  module _ {z : Names} {after : List ℕ} (h : i < length places) (s : ScopeAnswered (define text (get_or places i 0) (drop n.top entries)) 1 entries n.top z after) where
-    all : and_then (answered z after) (λ es. inputs_from text es (drop (i + 1) places)) ≡ inputs_from text (drop top first) places
-    all = ap (λ x. and_then x (λ es. inputs_from text es (drop (i + 1) places))) s.answer ∙ sym (inputs-next text (drop n.top entries) places i h) ∙ g.same
+  module _ (h : i < length places) where
+    all : {z : Result ℕ BadName} {after : List ℕ} → ScopeAnswered (define text (get_or places i 0) (drop n entries)) 1 entries n z after →
+        and_then (answered z after) (λ es. inputs_from text es (drop (i + 1) places)) ≡ inputs_from text (drop top first) places
+    all s = ap (λ x. and_then x (λ es. inputs_from text es (drop (i + 1) places))) s.answer ∙ sym (inputs-next text (drop n entries) places i h) ∙ g.same
 
-    pub inputs-fault : z.refusal ≢ 0 → ScopeAnswered (inputs_from text (drop top first) places) (length places) first top z after
-    inputs-fault e =
+    pub inputs-fault : (bad : BadName) {after : List ℕ} → ScopeAnswered (define text (get_or places i 0) (drop n entries)) 1 entries n (Err bad) after →
+        ScopeAnswered (inputs_from text (drop top first) places) (length places) first top (Err bad) after
+    inputs-fault bad {after} s =
+        record { answer = sym (refused bad after (λ es. inputs_from text es (drop (i + 1) places))) ∙ all s; size = s.size ∙ g.size; room = omega arith; within = s.within }
+
+    pub inputs-more : {m : ℕ} {after : List ℕ} → ScopeAnswered (define text (get_or places i 0) (drop n entries)) 1 entries n (Ok m) after →
+        Inputs text first top places (i + 1) m after
+    inputs-more s =
         let u = g.used in
         let m = s.room in
-        record { answer = sym (refused z after (λ es. inputs_from text es (drop (i + 1) places)) e) ∙ all; size = s.size ∙ g.size; room = omega arith; within = s.within }
-
-    pub inputs-more : z.refusal ≡ 0 → Inputs text first top places (i + 1) z after
-    inputs-more e =
-        let u = g.used in
-        let m = s.room in
-        record {
-          same = ap (λ x. and_then x (λ es. inputs_from text es (drop (i + 1) places))) (sym (fine z after e)) ∙ all;
-          sound = e;
-          size = s.size ∙ g.size;
-          used = omega arith;
-          within = s.within;
-          inside = omega arith;
-        }
+        record { same = all s; size = s.size ∙ g.size; used = omega arith; within = s.within; inside = omega arith }

@@ -9,7 +9,7 @@ use Rattle.text.specs.Names.{same_name}
 use Rattle.text.specs.declared.names.Name.{Name}
 use Rattle.grammar.specs.Symbols.{InputName, ResultName, OpName, FuncReturn, OperandName, BodyOpen, ArgumentName, BodyOpName, BodyReturn, BodyClose, comma, equals, Op}
 use Rattle.syntax.specs.Readings.{Reading, readings_of}
-use Rattle.scope.specs.declared.NameFault.{NameFault}
+use Rattle.scope.specs.Faults.{NameFault}
 
 -- An entry is a number: a defined name is its first byte, less than 131,072; then the opening of a body; above it a waiting name, a result whose op is
 -- still being read. The last entry stands first.

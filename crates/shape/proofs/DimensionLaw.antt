@@ -19,6 +19,9 @@ use Rattle.shape.proofs.IndexLaw.{factors-pos, ravel-lt, volume-pos}
 pub drop-next : (l : List ℕ) (d : ℕ) → d < length l → drop d l ≡ get_or l d 0 ∷ drop (d + 1) l
 drop-next l d h = rw add-one (drop-cons l d 0 h)
 
+pub drop_all : (l : List ℕ) (d : ℕ) → length l ≤ d → drop d l ≡ []
+drop_all l d h = drop_of_length-le l {i = d} h
+
 pub rest-cons : (dims : List ℕ) (rank d : ℕ) → d < rank → rank ≤ length dims → rest dims rank d ≡ get_or dims d 0 ∷ rest dims rank (d + 1)
 rest-cons dims rank d h l =
     let e : length (take rank dims) ≡ rank = length-take-le rank dims l in

@@ -1,7 +1,7 @@
 // Shapes by value, and the canonical order of a tensor's elements (01, "Element types"; "Rank at most 6": shapes as arrays by value).
 #![tactic(auto)]
 
-ghost use Rattle.std.specs.Prelude.{◌≡◌, ◌*◌, ◌≤◌, ◌<◌, max, min, take};
+ghost use Rattle.std.specs.Prelude.{◌≡◌, ◌*◌, ◌≤◌, ◌<◌, max, min, take, unwrap_or, IfSome};
 ghost use Rattle.shape.specs.Index.{size, volume, unravel, ravel, Within, is_within, element_at, in_six};
 ghost use Rattle.shape.specs.Place.{place_in};
 ghost use Rattle.shape.specs.Dims.{dims_of, Sized, Fills};
@@ -20,11 +20,9 @@ pub fn size_of(s: Shape) -> usize
     requires { Sized s }
     ensures { result ≡ size (dims_of s) }
 {
-    let rank = s.rank;
-    let dims = s.dims;
     let mut n = 1;
-    for d in 0..rank {
-        n = n * dims[d];
+    for d in &s.dims[..s.rank] {
+        n *= d;
     }
     n
 }
@@ -34,17 +32,7 @@ fn capped_product(n: usize, d: usize) -> usize
     requires { (1 ≤ n) × (n ≤ 4097) }
     ensures { result ≡ min (n * max 1 d) 4097 }
 {
-    if d == 0 {
-        return n;
-    }
-    if Limits::VOLUME < d {
-        return Limits::PAST_VOLUME;
-    }
-    let p = n * d;
-    if Limits::VOLUME < p {
-        return Limits::PAST_VOLUME;
-    }
-    p
+    n.saturating_mul(d.max(1)).min(Limits::PAST_VOLUME)
 }
 
 // The product of the dimensions with every 0 counted as 1, and 4097 for every product above 4096: no sum or product wraps.
@@ -52,11 +40,9 @@ pub fn volume_of(s: Shape) -> usize
     requires { s.rank ≤ 6 }
     ensures { result ≡ min (volume (dims_of s)) 4097 }
 {
-    let rank = s.rank;
-    let dims = s.dims;
     let mut n = 1;
-    for d in 0..rank {
-        n = capped_product(n, dims[d]);
+    for &d in &s.dims[..s.rank] {
+        n = capped_product(n, d);
     }
     n
 }
@@ -67,14 +53,12 @@ pub fn index_at(s: Shape, k: usize) -> [usize; Limits::RANK]
     ensures { result ≡ in_six (unravel (dims_of s) k) }
 {
     let mut step = size_of(s);
-    let rank = s.rank;
-    let dims = s.dims;
     let mut left = k;
-    let mut index = [0usize; Limits::RANK];
-    for d in 0..rank {
-        step = step / dims[d];
+    let mut index = [0; Limits::RANK];
+    for d in 0..s.rank {
+        step /= s.dims[d];
         index[d] = left / step;
-        left = left % step;
+        left %= step;
     }
     index
 }
@@ -84,11 +68,9 @@ pub fn position(s: Shape, index: [usize; Limits::RANK]) -> usize
     requires { Sized s × Within (dims_of s) index }
     ensures { result ≡ ravel (dims_of s) index }
 {
-    let rank = s.rank;
-    let dims = s.dims;
     let mut p = 0;
-    for d in 0..rank {
-        p = p * dims[d] + index[d];
+    for d in 0..s.rank {
+        p = p * s.dims[d] + index[d];
     }
     p
 }
@@ -98,14 +80,10 @@ pub fn within(s: Shape, index: [usize; Limits::RANK]) -> bool
     requires { s.rank ≤ 6 }
     ensures { result ≡ is_within (dims_of s) index }
 {
-    let rank = s.rank;
-    let dims = s.dims;
-    for d in 0..rank {
-        if dims[d] <= index[d] {
-            return false;
-        }
-    }
-    true
+    s.dims[..s.rank]
+        .iter()
+        .zip(index.iter())
+        .all(|(&d, &i)| i < d)
 }
 
 // The element at an index, or z where it is no index of the shape.
@@ -114,21 +92,17 @@ pub fn element_at(x: &[u64], s: Shape, index: [usize; Limits::RANK], z: u64) -> 
     ensures { result ≡ element_at x.now (dims_of s) index z }
 {
     if within(s, index) {
-        let p = position(s, index);
-        return x[p];
+        x[position(s, index)]
+    } else {
+        z
     }
-    z
 }
 
-// The first place of x among the first count numbers, or count.
-pub fn place_in(list: [usize; Limits::LIST], count: usize, x: usize) -> usize
+// The first place of x among the first count numbers.
+pub fn place_in(list: [usize; Limits::LIST], count: usize, x: usize) -> Option<usize>
     requires { count ≤ 6 }
-    ensures { result ≡ place_in (take count list) x }
+    ensures place { unwrap_or result count ≡ place_in (take count list) x }
+    ensures within { IfSome result (λ p. p < count) }
 {
-    for p in 0..count {
-        if list[p] == x {
-            return p;
-        }
-    }
-    count
+    list[..count].iter().position(|&y| y == x)
 }

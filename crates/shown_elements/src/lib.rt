@@ -8,7 +8,6 @@ ghost use Rattle.shown_elements.specs.Held.{Held};
 
 use division::Division;
 use element::ElementType;
-use elementwise::Step;
 use scalar::{Binary, Direction, Unary};
 use shown::show;
 
@@ -106,9 +105,7 @@ pub fn division(
     requires { Held t (length out.old) x.now × Held t (length out.old) y.now }
     ensures { out.new ≡ left_by op t x.now y.now out.old }
 {
-    let step = elementwise::division_into(0, op, t, x, y, out);
-    match step {
-        Step::Filled => show(rt, name, out),
-        Step::Zero(_, _) => {}
+    if elementwise::division_into(0, op, t, x, y, out).is_ok() {
+        show(rt, name, out);
     }
 }

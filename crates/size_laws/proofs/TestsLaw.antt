@@ -19,8 +19,8 @@ use Rattle.text.specs.declared.Token.{Token}
 use Rattle.shape.specs.Index.{volume}
 use Rattle.shape.specs.Whole.{pattern_of}
 use Rattle.element.specs.declared.ElementType.{ElementType}
-use Rattle.types.specs.declared.tensors.TypeRead.{TypeRead}
-use Rattle.types.specs.declared.numbers.Number.{Number}
+use Rattle.types.specs.Tensors.{TypeRead}
+use Rattle.types.specs.Numbers.{NumberRead}
 use Rattle.types.specs.Tensors.{element_named, bytes_between, dimensions_from, byte_count, all_fit, type_size_passed, typed, foreign, type_after, type_of}
 use Rattle.types.specs.Numbers.{decimal_number, is_attribute_number, pattern_in, fitting, unfit}
 use Rattle.grammar.specs.Symbols.{OpName, ListNumber}
@@ -90,7 +90,7 @@ first-same true true false false bs = refl
 
 -- ---- size 7
 
-fits-is : (b : Bool) (n : ℕ) → (pick {A = Number} b (fitting n) unfit).fits ≡ b
+fits-is : (b : Bool) (n : ℕ) → (pick {A = NumberRead} b (fitting n) unfit).fits ≡ b
 fits-is true n = refl
 fits-is false n = refl
 

@@ -24,7 +24,7 @@ fn place_at(
     ensures { result ≡ place_at text.now op vs n j }
 {
     if j < arity_of(op) {
-        let i = value_named(text, vs, n, place_of(op, Part::OPERAND_NAME, j));
+        let i = value_named(text, vs, n, place_of(op, Part::OPERAND_NAME, j)).unwrap_or(n);
         return offsets[i];
     }
     0

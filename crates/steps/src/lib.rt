@@ -8,7 +8,7 @@ ghost use Rattle.doing.specs.Doing.{Done};
 ghost use Rattle.steps.specs.Steps.{op_meaning, ValuesHeld, Accepts};
 
 use doing::do_op;
-use elementwise::Step;
+use elementwise::ZeroDivisor;
 use kinds::{kind_of, literal_of};
 use limits::Limits;
 use program::{Program, op_at};
@@ -25,13 +25,12 @@ pub fn op_step(
     k: usize,
     slots: &[u64],
     out: &mut [u64],
-) -> Step
+) -> Result<(), ZeroDivisor>
     requires accepts { Accepts text.now p vs starts × (k < ops_of p) }
     requires values_held { ValuesHeld vs (vs.inputs + k) slots.now × (length out.old ≡ size_at vs (vs.inputs + k)) }
     ensures { Done k (op_meaning text.now k slots.now) result out.old out.new }
 {
-    let ops = p.ops;
-    let op = op_at(text, ops[k]);
+    let op = op_at(text, p.ops[k]);
     let o = operation_of(text, op, row_of(text, op));
     let kind = kind_of(text, op);
     let literal = literal_of(text, op);

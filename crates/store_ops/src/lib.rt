@@ -4,15 +4,14 @@
 ghost use Rattle.std.specs.Prelude.{◌≡◌, ◌+◌, ◌≤◌, ◌<◌, length, take};
 ghost use Rattle.values.specs.Values.{ops_of};
 ghost use Rattle.offsets.specs.Offsets.{offset_at, needed_of};
+ghost use Rattle.judge.specs.Refusals.{numbers_of};
 ghost use Rattle.inputs.specs.Inputs.{input_slots};
 ghost use Rattle.steps.specs.Steps.{op_meaning, ValuesHeld, Accepts};
 ghost use Rattle.evaluation.specs.Evaluated.{ran, answer};
-ghost use Rattle.evaluation.specs.State.{Stretch, Written, InputsStarted, zeroed};
+ghost use Rattle.evaluation.specs.State.{Stretch, Written, InputsStarted};
 
-use constants::constant_into;
-use doing::zero_into;
-use elementwise::Step;
-use judge::Refusal;
+use elementwise::ZeroDivisor;
+use judge::Refused;
 use limits::Limits;
 use offsets::value_size;
 use program::Program;
@@ -30,19 +29,14 @@ fn fill_at(
     end: usize,
     done: &mut [u64],
     store: &mut [u64],
-) -> Step
+) -> Result<(), ZeroDivisor>
     requires accepts { Accepts text.now p vs starts × (k < ops_of p) × ValuesHeld vs (vs.inputs + k) done.old }
     requires stretch { Stretch vs (vs.inputs + k) at end (length done.old) (length store.old) }
     ensures { Written k (op_meaning text.now k done.old) at end result done.old done.new store.old store.new }
 {
-    let step = op_step(text, p, vs, starts, k, done, &mut store[at..end]);
-    match step {
-        Step::Filled => {
-            constant_into(&store[at..end], &mut done[at..end]);
-            Step::Filled
-        }
-        Step::Zero(op, element) => Step::Zero(op, element),
-    }
+    op_step(text, p, vs, starts, k, done, &mut store[at..end])?;
+    done[at..end].copy_from_slice(&store[at..end]);
+    Ok(())
 }
 
 // Op k.
@@ -54,7 +48,7 @@ fn fill(
     k: usize,
     done: &mut [u64],
     store: &mut [u64],
-) -> Step
+) -> Result<(), ZeroDivisor>
     requires accepts { Accepts text.now p vs starts × (k < ops_of p) × ValuesHeld vs (vs.inputs + k) done.old }
     requires vs_in_bounds { (needed_of vs ≤ length done.old) × (needed_of vs ≤ length store.old) × (needed_of vs ≤ 8192) }
     ensures { Written k (op_meaning text.now k done.old) (offset_at vs (vs.inputs + k)) (offset_at vs (vs.inputs + k + 1)) result done.old done.new store.old store.new }
@@ -63,14 +57,6 @@ fn fill(
     let at = starts[i];
     let end = at + value_size(vs, i);
     fill_at(text, p, vs, starts, k, at, end, done, store)
-}
-
-// Zeros from slot at to slot end.
-fn zero_from(at: usize, end: usize, store: &mut [u64])
-    requires { (at ≤ end) × (end ≤ length store.old) × (end ≤ 8192) }
-    ensures { store.new ≡ zeroed at end store.old }
-{
-    zero_into(&mut store[at..end]);
 }
 
 // All ops. The inputs stand in the store and in `done`. Refusal 12 has the op and the element that the walk of a division yields.
@@ -82,32 +68,16 @@ pub fn run_ops(
     needed: usize,
     done: &mut [u64],
     store: &mut [u64],
-) -> Refusal
+) -> Result<(), Refused>
     requires { Accepts text.now p vs starts × (needed ≡ needed_of vs) × InputsStarted vs done.old store.old }
-    ensures { answer result store.new ≡ ran text.now (take (input_slots vs) store.old) store.old }
+    ensures { answer (numbers_of result) store.new ≡ ran text.now (take (input_slots vs) store.old) store.old }
 {
     let n = ops_of(p);
-    let mut k = 0;
-    while k < n {
-        let step = fill(text, p, vs, starts, k, done, store);
-        match step {
-            Step::Filled => {
-                k += 1;
-            }
-            Step::Zero(op, element) => {
-                let at = starts[vs.inputs + k];
-                zero_from(at, needed, store);
-                return Refusal {
-                    number: 12,
-                    a: op,
-                    b: element,
-                };
-            }
+    for k in 0..n {
+        if let Err(z) = fill(text, p, vs, starts, k, done, store) {
+            store[starts[vs.inputs + k]..needed].fill(0);
+            return Err(Refused::ZeroDivisor(z.op, z.element));
         }
     }
-    Refusal {
-        number: 0,
-        a: 0,
-        b: 0,
-    }
+    Ok(())
 }

@@ -1,3 +1,2 @@
 pub mod CutLaw
-pub mod PieceLaw
 pub mod TookLaw

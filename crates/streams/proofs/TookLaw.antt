@@ -1,15 +1,11 @@
 -- What reads take from known input, one after another.
 -- Assumes nothing.
-use Rattle.std.proofs.Common.{◌≡◌, ℕ, ◌+◌, ◌-◌, ◌*◌, ◌<◌, ◌≤◌, ◌⊎◌, inl, inr, true, false, List, [], ◌∷◌, ◌++◌, length, take, Option, None, Some, Result, Ok, Err, IfSome, Bool, refl, sym, ◌∙◌, ap, subst, arith, append_assoc, length-append, length-take-le}
+use Rattle.std.proofs.Common.{◌≡◌, ℕ, ◌+◌, ◌-◌, ◌*◌, ◌<◌, ◌≤◌, ◌⊎◌, inl, inr, List, [], ◌∷◌, ◌++◌, length, take, Option, None, Some, IfSome, refl, sym, ◌∙◌, ap, subst, arith, append_assoc, length-append, length-take-le}
 use Rattle.std.proofs.lemmas.List.{take-append-le, append-nil, take_all}
 use Rattle.std.proofs.Math.Nat.{eq-or-lt_of_le}
-use mathlib.Core.Bool.{true≢false}
 use Rattle.std.proofs.Math.Seq.{take-append-add, take-append_seam}
 use borrow.Rule.Slice.PartMut.{put_mid, post_of}
-use Rattle.std.specs.Io.KnownBytes.{ReadConsumes}
-use Rattle.std.specs.Io.{ReadsAtMost}
-use Rattle.streams.specs.declared.Piece.{Piece}
-use Rattle.streams.specs.Pieces.{piece_of}
+use Rattle.std.specs.Io.KnownBytes.{Consumes, IsAtEnd}
 use Rattle.streams.specs.Known.{Took, TookCount, IsKept}
 
 -- a list with another behind it is empty only where that one is
@@ -33,15 +29,10 @@ took-more (Some o) (Some m) (Some n) xs ys E F G a b g = (
 
 -- one read into room
 pub read-took :
-    {E : Type 0} (o n : Option (List ℕ)) (r : Result ℕ E) (buf : List ℕ) (p : Piece) → ReadConsumes o n r buf → ReadsAtMost r buf
-    → p ≡ piece_of r (length buf) → p.failed ≡ false → Took o n (take p.count buf) ((p.count ≡ 0) × (0 < length buf))
-unfolding piece_of
-read-took o n (Err x) buf p h w e f = absurd (true≢false (sym (ap (λ (q : Piece). q.failed) e) ∙ f))
-read-took None n (Ok k) buf p h w e f = tt
-read-took (Some o) None (Ok k) buf p h w e f = absurd h.0
-read-took (Some o) (Some n) (Ok k) buf p h w e f =
-    let t : p.count ≡ k = omega (arith, ap (λ (q : Piece). q.count) e, w) in
-    (rw t h.0, λ q. h.1 (sym t ∙ q.0) q.1)
+    (o n : Option (List ℕ)) (k : ℕ) (buf : List ℕ) → Consumes o n (take k buf) × (k ≡ 0 → 0 < length buf → IsAtEnd n) → Took o n (take k buf) ((k ≡ 0) × (0 < length buf))
+read-took None n k buf h = tt
+read-took (Some o) None k buf h = absurd h.0
+read-took (Some o) (Some n) k buf h = (h.0, λ q. h.1 q.0 q.1)
 
 -- a read into the room behind the first a bytes
 took-put : (a k c : ℕ) (xs ys : List ℕ) → a ≤ length xs → c ≤ length ys → take (a + c) (put_mid a k xs ys) ≡ take a xs ++ take c ys
@@ -54,23 +45,18 @@ pub front-more :
     → Took o m (take a xs) ⊥ → Took m n (take c ys) E → Took o n (take (a + c) (put_mid a k xs ys)) ⊥
 front-more o m n a k c xs ys E h w p q = rw (took-put a k c xs ys h w) (took-more o m n _ _ ⊥ E ⊥ p q (λ h. absurd h))
 
--- what failed has no bytes, so a read with bytes has not failed
-pub not-failed : (b : Bool) (n : ℕ) → (b ≡ true → n ≡ 0) → (n ≡ 0 → ⊥) → b ≡ false
-not-failed true n h e = absurd (e (h refl))
-not-failed false n h e = refl
-
 -- a turn of at most 65,536 bytes
 turn-short :
-    (total count turns : ℕ) → 0 < turns → count ≤ 65536 → total + count + 65536 * (turns - 1) < 4294967296
-    → (total + 65536 * turns < 4294967296) ⊎ (count < 65536)
-turn-short total count turns t w h = elim (eq-or-lt_of_le w) [ inl e ↦ inl (omega arith) | inr l ↦ inr l ]
+    (total count done : ℕ) → done < 65536 → count ≤ 65536 → total + count + 65536 * (65536 - (done + 1)) < 4294967296
+    → (total + 65536 * (65536 - done) < 4294967296) ⊎ (count < 65536)
+turn-short total count done t w h = elim (eq-or-lt_of_le w) [ inl e ↦ inl (omega arith) | inr l ↦ inr l ]
 
 pub turn-more :
-    (o m n : Option (List ℕ)) (total count turns : ℕ) → 0 < turns → count ≤ 65536
-    → TookCount o m total (total + 65536 * turns < 4294967296) → TookCount m n count (count < 65536)
-    → TookCount o n (total + count) (total + count + 65536 * (turns - 1) < 4294967296)
-turn-more o m n total count turns t w (xs, k, p) (ys, l, q) =
-    (xs ++ ys, omega (arith, length-append xs ys, k, l), took-more o m n xs ys _ _ _ p q (turn-short total count turns t w))
+    (o m n : Option (List ℕ)) (total count done : ℕ) → done < 65536 → count ≤ 65536
+    → TookCount o m total (total + 65536 * (65536 - done) < 4294967296) → TookCount m n count (count < 65536)
+    → TookCount o n (total + count) (total + count + 65536 * (65536 - (done + 1)) < 4294967296)
+turn-more o m n total count done t w (xs, k, p) (ys, l, q) =
+    (xs ++ ys, omega (arith, length-append xs ys, k, l), took-more o m n xs ys _ _ _ p q (turn-short total count done t w))
 
 -- the text's first bytes, and those that follow: none where there is room
 pub kept-short :

@@ -1,3 +1,2 @@
 pub mod Cut
-pub mod Pieces
 pub mod Known

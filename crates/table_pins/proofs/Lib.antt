@@ -1,2 +1,3 @@
 pub mod ColumnPins
 pub mod AttributeKindPins
+pub mod PastLaw

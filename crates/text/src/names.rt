@@ -1,8 +1,8 @@
 // Stretches of the text compared byte by byte.
-ghost use Rattle.std.specs.Prelude.{◌≡◌, take, drop};
-ghost use Rattle.text.specs.Names.{word_is, same_bytes, same_name};
+ghost use Rattle.std.specs.Prelude.{◌≡◌};
+ghost use Rattle.text.specs.Names.{word_is, name_bytes, same_name};
 
-use scan::bytes::starts;
+use scan::bytes::{starts, tail};
 
 // A name with its sigil, or a word: its first byte's place and its length.
 #[derive(Clone, Copy)]
@@ -12,47 +12,23 @@ pub struct Name {
 }
 
 // Whether the bytes from `start` up to `end` are `word`.
+#[tactic(auto, using(std::proofs::lemmas::Bool::Decides::nat_tests), unfolding(crate::specs::Names::word_is))]
 pub fn is_word(text: &[u8], start: usize, end: usize, word: &[u8]) -> bool
     ensures { result ≡ word_is word.now text.now start end }
 {
-    if end < start {
-        return false;
-    }
-    if end - start == word.len() {
-        return starts(text, start, word);
-    }
-    false
+    start <= end && end - start == word.len() && starts(text, start, word)
 }
 
-// Whether the `len` bytes at `a` and at `b` are the same.
-fn same_bytes(text: &[u8], a: usize, b: usize, len: usize) -> bool
-    ensures { result ≡ same_bytes (take len (drop a text.now)) (take len (drop b text.now)) }
+// The bytes of a name.
+fn name_bytes(text: &[u8], n: Name) -> &[u8]
+    ensures { result.now ≡ name_bytes text.now n }
 {
-    let mut i = a;
-    let mut j = b;
-    let mut left = len;
-    while 0 < left {
-        if text.len() <= i {
-            return text.len() <= j;
-        }
-        if text.len() <= j {
-            return false;
-        }
-        if text[i] != text[j] {
-            return false;
-        }
-        i += 1;
-        j += 1;
-        left -= 1;
-    }
-    true
+    let rest = tail(text, n.at);
+    &rest[..n.len.min(rest.len())]
 }
 
 pub fn same_name(text: &[u8], a: Name, b: Name) -> bool
     ensures { result ≡ same_name text.now a b }
 {
-    if a.len == b.len {
-        return same_bytes(text, a.at, b.at, a.len);
-    }
-    false
+    a.len == b.len && name_bytes(text, a) == name_bytes(text, b)
 }

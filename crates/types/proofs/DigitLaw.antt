@@ -3,10 +3,11 @@
 use mathlib.Core.Path.{◌≡◌, refl, sym, ap, ◌∙◌}
 use mathlib.Core.Bool.{Bool, true, false, ◌&&◌}
 use mathlib.Core.List.{List, [], ◌∷◌}
-use Prim.Native.Nat.{ℕ, zero, suc, ◌+◌, ◌-◌, ◌*◌, ◌^◌, ◌<◌, ◌≤◌}
+use Prim.Native.Nat.{ℕ, zero, suc, ◌+◌, ◌-◌, ◌*◌, ◌%◌, ◌^◌, ◌<◌, ◌≤◌}
 use native.Mathlib.Numerals.{add-one, unary_clauses}
 use native.Mathlib.Decide.{dec_lt}
 use native.Mathlib.Omega.{arith}
+use Rattle.std.specs.Prelude.{Option, Some, None}
 use lib.IntN.{ℤ, pos, negsuc, neg_ℤ}
 use lib.Signed.{mag}
 use lib.ListN.{length, get_or, drop, drop_of_length-le}
@@ -19,8 +20,8 @@ use Rattle.element.specs.Types.{highest_of, signed_of, slot_for}
 use Rattle.element.specs.declared.ElementType.{ElementType}
 use Rattle.element.proofs.Held.{highest-small, signed-small}
 use Rattle.shape.specs.Whole.{pattern_of}
-use Rattle.types.specs.declared.numbers.Decimal.{Decimal}
-use Rattle.types.specs.Numbers.{digits_from, as_decimal, in_type, fitting, unfit, number_in, is_attribute_number, pattern_in}
+use Rattle.shape.proofs.WholeLaw.{pattern-negsuc}
+use Rattle.types.specs.Numbers.{Decimal, digits_from, as_decimal, decimal_read, in_type, fitting, unfit, number_in, is_attribute_number, pattern_in}
 
 -- the loop over digits
 
@@ -80,6 +81,11 @@ decimal-small n m h = rw (lt-leb (2 ^ 64) m h)
 pub decimal-big : (n : Bool) (m : ℕ) → 2 ^ 64 ≤ m → as_decimal n m ≡ record { negative = n; big = true; magnitude = 0 }
 unfolding as_decimal
 decimal-big n m h = rw (le-leb (2 ^ 64) m h)
+
+pub signed-decimal : (n : Bool) (m : ℕ) (r : Option ℕ) → decimal_read false r ≡ as_decimal false m → decimal_read n r ≡ as_decimal n m
+unfolding as_decimal
+signed-decimal n m (Some k) e = let b : leb (2 ^ 64) m ≡ false = sym (ap (λ (d : Decimal). d.big) e) in rw b (ap (λ (k : ℕ). record { negative = n; big = false; magnitude = k }) (rw b at (ap (λ (d : Decimal). d.magnitude) e)))
+signed-decimal n m None e = let b : leb (2 ^ 64) m ≡ true = sym (ap (λ (d : Decimal). d.big) e) in rw b
 
 -- what the fields of a decimal number tell
 module _ (n : Bool) (m : ℕ) {d : Decimal} (e : d ≡ as_decimal n m) where
@@ -147,6 +153,13 @@ pattern-fits z h = rw (lt-ltb (mag z) (2 ^ 63) h)
 pub pattern-unfit : (z : ℤ) → 2 ^ 63 ≤ mag z → pattern_in z ≡ unfit
 unfolding pattern_in is_attribute_number
 pattern-unfit z h = rw (le-ltb (mag z) (2 ^ 63) h)
+
+-- the pattern of -m
+pub negated-pattern : (m r : ℕ) → m ≤ 2 ^ 63 → r < 2 ^ 64 → (r + m) % 2 ^ 64 ≡ 0 → pattern_in (neg_ℤ (pos m)) ≡ fitting r
+negated-pattern zero r h l e = let z : r ≡ 0 = omega arith in rw z (pattern-fits (pos 0) (omega arith))
+negated-pattern (suc n) r h l e =
+    let z : 2 ^ 64 - 1 - n ≡ r = omega arith in
+    pattern-fits (negsuc n) (omega arith) ∙ ap fitting (pattern-negsuc n (omega arith) ∙ z)
 
 pub big-pattern : (b : Bool) (m : ℕ) → 2 ^ 64 ≤ m → pattern_in (pick b (neg_ℤ (pos m)) (pos m)) ≡ unfit
 big-pattern true zero h = absurd (omega arith)

@@ -17,7 +17,7 @@ use Rattle.element.specs.declared.ElementType.{ElementType}
 use Rattle.element.specs.declared.ElementType.TheVariants.{I1, I8, I16, I32, I64, U8, U16, U32, U64}
 use Rattle.types.specs.Numbers.{digits_from, magnitude_of, decimal_number, in_type, fitting, unfit, number_in, is_attribute_number, pattern_in}
 use Rattle.types.specs.Tensors.{width_named, element_named, dimensions_from, byte_count, all_fit, type_size_passed, typed, foreign, type_after, type_of}
-use Rattle.types.specs.declared.tensors.TypeRead.{TypeRead}
+use Rattle.types.specs.Tensors.{TypeRead}
 
 type_in : String → TypeRead
 type_in s = type_of (ascii s) 0

@@ -8,27 +8,23 @@ use native.Mathlib.Nat.{mul-le-mul}
 use native.Mathlib.Numerals.{add-one, unary_clauses}
 use native.Mathlib.Decide.{dec_lt}
 use native.Mathlib.Omega.{arith}
-use lib.ListN.{length, get_or, take, drop, length-drop}
+use lib.ListN.{length, get_or, take, drop, length-drop, drop_of_length-le}
 use lib.Dec.{leb, ltb, eqb}
 use lib.Seq.{drop-cons}
-use borrow.Author.Tests.{eq-eqb, ne_eqb, le-leb, lt-leb, lt-ltb, le-ltb}
+use borrow.Author.Tests.{ne_eqb, le-leb, lt-leb, lt-ltb, le-ltb}
+use Rattle.std.specs.Prelude.{cond, not, ◌||◌, ◌==◌}
+use Rattle.std.specs.List.{count_by, list_any}
+use Rattle.std.proofs.lemmas.List.Sums.{sum_by-cons}
 use Rattle.lists.specs.Lists.{pick, tab}
 use Rattle.lists.proofs.TabLaw.{map-tab, tab-get_or}
 use Rattle.scan.specs.TypeText.{size_next, shape_end_from, shape_end}
+use Rattle.scan.proofs.EndLaw.{shape-ge}
 use Rattle.shape.specs.Index.{volume}
 use Rattle.shape.proofs.IndexLaw.{volume-pos}
-use Rattle.types.specs.Tensors.{bytes_between, dimensions_from, byte_count, all_fit, type_size_passed, first_six}
+use Rattle.types.specs.Tensors.{dimensions_from, byte_count, all_fit, type_size_passed, first_six}
 
--- a stretch's first byte, and its end
-
-module _ (text : List ℕ) (i end : ℕ) where
-  pub stretch-step : i < end → end ≤ length text → bytes_between i end text ≡ get_or text i 0 ∷ bytes_between (i + 1) end text
-  stretch-step h g =
-      let e : end - i ≡ suc (end - (i + 1)) = omega arith in
-      rw (e, drop-cons text i 0 (omega arith), add-one)
-
-  pub stretch-past : end ≤ i → bytes_between i end text ≡ []
-  stretch-past h = let e : end - i ≡ 0 = omega arith in rw e
+drop-first : (s : List ℕ) (i : ℕ) → i < length s → drop i s ≡ get_or s i 0 ∷ drop (i + 1) s
+drop-first s i h = rw (drop-cons s i 0, add-one i)
 
 -- the shape's text ends within the text
 
@@ -47,6 +43,9 @@ shape-from-le n (b ∷ bs) end size at h g =
 pub shape-le : (text : List ℕ) (at : ℕ) → at ≤ length text → shape_end text at ≤ length text
 unfolding shape_end
 shape-le text at h = shape-from-le (length text) (drop at text) at 0 at h (rw length-drop (omega arith))
+
+pub shape-within : (text : List ℕ) (at end : ℕ) → end ≡ shape_end text at → at ≤ length text → (at ≤ end) × (end ≤ length text)
+shape-within text at end e h = rw e (shape-ge at text h at (omega arith), shape-le text at h)
 
 -- dimensions as the code holds them
 
@@ -89,39 +88,43 @@ unfolding capped_from
 capped-digit v b s n = rw (ne_eqb b 120 n)
 
 -- the loop for one dimension, which is m: left more dimensions stand before it
-module _ (text : List ℕ) (i end left v m : ℕ) (is : get_or (capped_from v (bytes_between i end text)) left 0 ≡ m) where
-  pub dimension-past : end ≤ i → 0 ≡ m
+module _ (s : List ℕ) (i left v m : ℕ) (is : get_or (capped_from v (drop i s)) left 0 ≡ m) where
+  pub dimension-past : length s ≤ i → 0 ≡ m
   unfolding capped_from
-  dimension-past h = rw (stretch-past text i end h) at is
+  dimension-past h = rw (drop_of_length-le s h) at is
 
-  module _ (h : i < end) (g : end ≤ length text) where
-    pub dimension-here : get_or text i 0 ≡ 120 → left ≡ 0 → v ≡ m
-    dimension-here e z = rw (stretch-step text i end h g, capped-x v _ (bytes_between (i + 1) end text) e, z) at is
+  module _ (h : i < length s) where
+    pub dimension-here : get_or s i 0 ≡ 120 → left ≡ 0 → v ≡ m
+    dimension-here e z = rw (drop-first s i h, capped-x v _ (drop (i + 1) s) e, z) at is
 
-    pub dimension-next : get_or text i 0 ≡ 120 → (left ≡ 0 → ⊥) → get_or (capped_from 0 (bytes_between (i + 1) end text)) (left - 1) 0 ≡ m
-    dimension-next e n = one_less left (capped_from 0 (bytes_between (i + 1) end text)) n (rw (stretch-step text i end h g, capped-x v _ (bytes_between (i + 1) end text) e) at is)
+    pub dimension-next : get_or s i 0 ≡ 120 → (left ≡ 0 → ⊥) → get_or (capped_from 0 (drop (i + 1) s)) (left - 1) 0 ≡ m
+    dimension-next e n = one_less left (capped_from 0 (drop (i + 1) s)) n (rw (drop-first s i h, capped-x v _ (drop (i + 1) s) e) at is)
       where
         one_less : (k : ℕ) (r : List ℕ) → (k ≡ 0 → ⊥) → get_or (v ∷ r) k 0 ≡ m → get_or r (k - 1) 0 ≡ m
         one_less zero r n q = absurd (n refl)
         one_less (suc k) r n q = simp unary_clauses q
 
-    pub dimension-digit : (get_or text i 0 ≡ 120 → ⊥) → get_or (capped_from (min (v * 10 + (get_or text i 0 - 48)) 4097) (bytes_between (i + 1) end text)) left 0 ≡ m
-    dimension-digit n = rw (stretch-step text i end h g, capped-digit v _ (bytes_between (i + 1) end text) n) at is
+    pub dimension-digit : (get_or s i 0 ≡ 120 → ⊥) → get_or (capped_from (min (v * 10 + (get_or s i 0 - 48)) 4097) (drop (i + 1) s)) left 0 ≡ m
+    dimension-digit n = rw (drop-first s i h, capped-digit v _ (drop (i + 1) s) n) at is
 
--- the loop that counts a byte: n so far, m in all
-module _ (text : List ℕ) (i end b n m : ℕ) (is : n + byte_count b (bytes_between i end text) ≡ m) where
-  pub count_past : end ≤ i → n ≡ m
-  unfolding byte_count
-  count_past h = let e : n + 0 ≡ m = rw (stretch-past text i end h) at is in omega arith
+-- how often a byte stands in a text, as std counts
+pub counted : (b : ℕ) (s : List ℕ) → byte_count b s ≡ count_by (λ x. x == b) s
+unfolding byte_count
+counted b [] = refl
+counted b (x ∷ xs) = by-test (eqb x b) (counted b xs) ∙ sym (sum_by-cons (λ x. cond (x == b) 1 0) x xs)
+  where
+    by-test : (t : Bool) → byte_count b xs ≡ count_by (λ x. x == b) xs → pick t (byte_count b xs + 1) (byte_count b xs) ≡ cond t 1 0 + count_by (λ x. x == b) xs
+    by-test true p = omega arith
+    by-test false p = omega arith
 
-  module _ (h : i < end) (g : end ≤ length text) where
-    pub count-one : get_or text i 0 ≡ b → n + 1 + byte_count b (bytes_between (i + 1) end text) ≡ m
-    unfolding byte_count
-    count-one e = let q : n + (byte_count b (bytes_between (i + 1) end text) + 1) ≡ m = rw (stretch-step text i end h g, eq-eqb _ _ e) at is in omega arith
-
-    pub count-other : (get_or text i 0 ≡ b → ⊥) → n + byte_count b (bytes_between (i + 1) end text) ≡ m
-    unfolding byte_count
-    count-other e = rw (stretch-step text i end h g, ne_eqb _ _ e) at is
+pub none-found : (b : ℕ) (s : List ℕ) → eqb (byte_count b s) 0 ≡ not (list_any (λ y. eqb y b) s)
+unfolding byte_count
+none-found b [] = refl
+none-found b (x ∷ xs) = by-test (eqb x b) (none-found b xs)
+  where
+    by-test : (t : Bool) → eqb (byte_count b xs) 0 ≡ not (list_any (λ y. eqb y b) xs) → eqb (pick t (byte_count b xs + 1) (byte_count b xs)) 0 ≡ not (t || list_any (λ y. eqb y b) xs)
+    by-test true p = ne_eqb _ _ (omega arith)
+    by-test false p = p
 
 -- as many dimensions as 'x'
 pub rank-count : (s : List ℕ) (v : ℕ) → byte_count 120 s ≡ length (dimensions_from v s)

@@ -1,6 +1,6 @@
 -- What a tensor type token says: its element type, its shape, and which size it passes.
 -- Assumes nothing.
-use Rattle.std.specs.Prelude.{ℕ, ◌+◌, ◌-◌, ◌*◌, min, List, [], ◌∷◌, Bool, true, false, ◌&&◌, length, get_or, take, drop, replicate, ltb, leb, eqb}
+use Rattle.std.specs.Prelude.{ℕ, ◌+◌, ◌-◌, ◌*◌, min, List, [], ◌∷◌, Bool, true, false, ◌&&◌, length, get_or, take, drop, replicate, ltb, leb, eqb, Option, Some, None}
 use Rattle.lists.specs.Lists.{pick, tab}
 use Rattle.scan.specs.Ascii.{ascii}
 use Rattle.scan.specs.Bytes.{starts_with}
@@ -10,17 +10,36 @@ use Rattle.text.specs.Names.{word_is}
 use Rattle.shape.specs.Index.{volume}
 use Rattle.element.specs.declared.ElementType.{ElementType}
 use Rattle.element.specs.declared.ElementType.TheVariants.{I1, I8, I16, I32, I64, U8, U16, U32, U64}
-use Rattle.types.specs.declared.tensors.Named.{Named}
-use Rattle.types.specs.declared.tensors.TypeRead.{TypeRead}
+use Rattle.shape.specs.declared.Shape.{Shape}
+use Rattle.types.specs.declared.tensors.WrittenType.{WrittenType}
+use Rattle.types.specs.declared.tensors.Passed.{Passed}
+use Rattle.types.specs.declared.tensors.Passed.TheVariants.{Rank, Volume}
 
-abbrev pub named_element : ElementType → Named
+-- the element type that a name stands for, if it is one of 01's
+pub record NamedElement : Type 0 where
+  pub known : Bool
+  pub element : ElementType
+
+-- a tensor type: whether it is in 01; if so its element type, its shape, of which `dims` has the first six, and the first of sizes 1 and 2 that it passes
+pub record TypeRead : Type 0 where
+  pub known : Bool
+  pub element : ElementType
+  pub shape : Shape
+  pub passed : ℕ
+
+abbrev pub named_element : ElementType → NamedElement
 named_element t = record { known = true; element = t }
 
-abbrev pub unnamed : Named
+abbrev pub unnamed : NamedElement
 unnamed = record { known = false; element = I1 }
 
+-- an element type as the code holds it
+abbrev pub named_of : Option ElementType → NamedElement
+named_of (Some t) = named_element t
+named_of None = unnamed
+
 -- "8, 16, 32, 64 bits": the type of that width among four, by the bytes from start up to end
-unfoldable pub width_named : ElementType → ElementType → ElementType → ElementType → List ℕ → ℕ → ℕ → Named
+unfoldable pub width_named : ElementType → ElementType → ElementType → ElementType → List ℕ → ℕ → ℕ → NamedElement
 width_named t8 t16 t32 t64 text start end =
     pick (word_is (ascii "8") text start end) (named_element t8)
     (pick (word_is (ascii "16") text start end) (named_element t16)
@@ -28,7 +47,7 @@ width_named t8 t16 t32 t64 text start end =
     (pick (word_is (ascii "64") text start end) (named_element t64) unnamed)))
 
 -- 01, "Element types": "`i1`, signed 8, 16, 32, 64 bits (written `i8` or `si8`, one meaning) and unsigned `ui8` to `ui64`"
-unfoldable pub element_named : List ℕ → ℕ → ℕ → Named
+unfoldable pub element_named : List ℕ → ℕ → ℕ → NamedElement
 element_named text start end =
     pick (word_is (ascii "i1") text start end) (named_element I1)
     (pick (starts_with (ascii "i") (drop start text)) (width_named I8 I16 I32 I64 text (start + 1) end)
@@ -71,6 +90,17 @@ typed t ds = record { known = true; element = t; shape = record { rank = length 
 -- a type that is not in 01 (refusal 3): an unknown element, or a '?' ("Left out: .. unknown sizes")
 unfoldable pub foreign : TypeRead
 foreign = record { known = false; element = I1; shape = record { rank = 0; dims = replicate 6 0 }; passed = 0 }
+
+-- a size as the code holds it
+abbrev pub passed_number : Option Passed → ℕ
+passed_number (Some Rank) = 1
+passed_number (Some Volume) = 2
+passed_number None = 0
+
+-- a type as the code holds it
+abbrev pub type_read : Option WrittenType → TypeRead
+type_read (Some t) = record { known = true; element = t.element; shape = t.shape; passed = passed_number t.passed }
+type_read None = record { known = false; element = I1; shape = record { rank = 0; dims = replicate 6 0 }; passed = 0 }
 
 -- the type whose token's `tensor<` ends here
 unfoldable pub type_after : List ℕ → ℕ → TypeRead

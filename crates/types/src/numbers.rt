@@ -1,214 +1,125 @@
 // The value of a number token.
-ghost use Rattle.std.specs.Prelude.{◌≡◌, ◌+◌, ◌-◌, ◌*◌, ◌^◌, ◌≤◌, false, pos, negsuc, neg_ℤ, drop, leb};
-ghost use Rattle.types.specs.Numbers.{digits_from, as_decimal, decimal_of, decimal_number, number_in, pattern_in};
+ghost use Rattle.std.specs.Prelude.{◌≡◌, ◌+◌, ◌-◌, ◌*◌, ◌^◌, ◌≤◌, false, pos, negsuc, neg_ℤ, drop};
+ghost use Rattle.types.specs.Numbers.{digits_from, as_decimal, decimal_read, decimal_of, decimal_number, number_read, number_in, pattern_in};
 
 use element::{ElementType, slot_for};
-use scan::bytes::{byte_at, is_digit};
+use scan::bytes::{byte_at, is_digit, tail};
 use scan::quantized::sign_end;
 
-// A decimal number of any length: its sign, whether the rest is 2^64 or more, and if it is not, the rest.
+// A decimal number of any length: its sign, and the rest if that is below 2^64.
 #[derive(Clone, Copy)]
-pub struct Decimal {
+pub struct SignedDecimal {
     pub negative: bool,
-    pub big: bool,
-    pub magnitude: u64,
-}
-
-// A number of a type as its slot, or an attribute number as its pattern, or that it does not fit.
-#[derive(Clone, Copy)]
-pub struct Number {
-    pub fits: bool,
-    pub bits: u64,
+    pub magnitude: Option<u64>,
 }
 
 // The value of a digit; 0 for every byte below '0'.
-pub fn digit_of(b: u8) -> usize
+pub fn digit_of(b: u8) -> u8
     ensures { result ≡ b - 48 }
 {
-    if b < b'0' {
-        return 0;
-    }
-    wide(b - b'0')
+    b.saturating_sub(b'0')
 }
 
-fn wide(b: u8) -> usize
-    ensures { result ≡ b }
-{
-    b as usize
-}
-
-// Whether the digits of v and one more are 2^64 or more.
-fn passes(v: u64, digit: u64) -> bool
-    requires { digit ≤ 9 }
-    ensures { result ≡ leb (2 ^ 64) (v * 10 + digit) }
-{
-    if v < 1844674407370955161 {
-        return false;
-    }
-    if v == 1844674407370955161 {
-        return 5 < digit;
-    }
-    true
-}
-
-// The digits from `at` on, without a sign.
-fn digits(text: &[u8], at: usize) -> Decimal
-    ensures { result ≡ as_decimal false (digits_from 0 (drop at text.now)) }
+// The digits from `at` on, without a sign, if their number is below 2^64.
+fn digits(text: &[u8], at: usize) -> Option<u64>
+    ensures { decimal_read false result ≡ as_decimal false (digits_from 0 (drop at text.now)) }
 {
     let mut v: u64 = 0;
-    let mut i = at;
-    while i < text.len() {
-        let b = text[i];
-        if is_digit(b) {
-            let digit = digit_of(b) as u64;
-            if passes(v, digit) {
-                return Decimal {
-                    negative: false,
-                    big: true,
-                    magnitude: 0,
-                };
-            }
-            v = v * 10 + digit;
-            i += 1;
-        } else {
-            return Decimal {
-                negative: false,
-                big: false,
-                magnitude: v,
-            };
+    for b in tail(text, at) {
+        if !is_digit(*b) {
+            return Some(v);
         }
+        v = v.checked_mul(10)?.checked_add(u64::from(digit_of(*b)))?;
     }
-    Decimal {
-        negative: false,
-        big: false,
-        magnitude: v,
-    }
+    Some(v)
 }
 
 // The number whose token starts at `start`.
-pub fn decimal_at(text: &[u8], start: usize) -> Decimal
-    ensures { result ≡ decimal_of text.now start }
+pub fn decimal_at(text: &[u8], start: usize) -> SignedDecimal
+    ensures { decimal_read result.negative result.magnitude ≡ decimal_of text.now start }
 {
-    let d = digits(text, sign_end(text, start));
-    Decimal {
+    SignedDecimal {
         negative: byte_at(text, start) == b'-',
-        big: d.big,
-        magnitude: d.magnitude,
+        magnitude: digits(text, sign_end(text, start)),
     }
 }
 
-fn at_least_zero(n: u64, t: ElementType) -> Number
-    ensures { result ≡ number_in t (pos n) }
+fn at_least_zero(n: u64, t: ElementType) -> Option<u64>
+    ensures { number_read result ≡ number_in t (pos n) }
 {
     if n <= t.highest() {
-        return Number {
-            fits: true,
-            bits: slot_for(t, false, n),
-        };
-    }
-    Number {
-        fits: false,
-        bits: 0,
+        Some(slot_for(t, false, n))
+    } else {
+        None
     }
 }
 
 // The number -1 - n.
-fn below_zero(n: u64, t: ElementType) -> Number
-    ensures { result ≡ number_in t (negsuc n) }
+fn below_zero(n: u64, t: ElementType) -> Option<u64>
+    ensures { number_read result ≡ number_in t (negsuc n) }
 {
-    if t.is_signed() {
-        if n <= t.highest() {
-            return Number {
-                fits: true,
-                bits: slot_for(t, true, n + 1),
-            };
-        }
-        return Number {
-            fits: false,
-            bits: 0,
-        };
-    }
-    Number {
-        fits: false,
-        bits: 0,
+    if t.is_signed() && n <= t.highest() {
+        Some(slot_for(t, true, n + 1))
+    } else {
+        None
     }
 }
 
 // The number -m.
-fn negated(m: u64, t: ElementType) -> Number
-    ensures { result ≡ number_in t (neg_ℤ (pos m)) }
+fn negated(m: u64, t: ElementType) -> Option<u64>
+    ensures { number_read result ≡ number_in t (neg_ℤ (pos m)) }
 {
     if m == 0 {
-        return at_least_zero(0, t);
+        at_least_zero(0, t)
+    } else {
+        below_zero(m - 1, t)
     }
-    below_zero(m - 1, t)
 }
 
 // The number whose token starts at `start`, as a slot of type t.
-pub fn number_in(text: &[u8], start: usize, t: ElementType) -> Number
-    ensures { result ≡ number_in t (decimal_number text.now start) }
+pub fn number_in(text: &[u8], start: usize, t: ElementType) -> Option<u64>
+    ensures { number_read result ≡ number_in t (decimal_number text.now start) }
 {
     let d = decimal_at(text, start);
-    if d.big {
-        return Number {
-            fits: false,
-            bits: 0,
-        };
-    }
+    let magnitude = d.magnitude?;
     if d.negative {
-        return negated(d.magnitude, t);
+        negated(magnitude, t)
+    } else {
+        at_least_zero(magnitude, t)
     }
-    at_least_zero(d.magnitude, t)
 }
 
 // The number n.
-fn pattern_of(n: u64) -> Number
-    ensures { result ≡ pattern_in (pos n) }
+fn pattern_of(n: u64) -> Option<u64>
+    ensures { number_read result ≡ pattern_in (pos n) }
 {
     if n < 0x8000_0000_0000_0000 {
-        return Number {
-            fits: true,
-            bits: n,
-        };
-    }
-    Number {
-        fits: false,
-        bits: 0,
+        Some(n)
+    } else {
+        None
     }
 }
 
 // The number -m.
-fn negated_pattern(m: u64) -> Number
-    ensures { result ≡ pattern_in (neg_ℤ (pos m)) }
+fn negated_pattern(m: u64) -> Option<u64>
+    ensures { number_read result ≡ pattern_in (neg_ℤ (pos m)) }
 {
-    if m == 0 {
-        return pattern_of(0);
-    }
-    if m - 1 < 0x8000_0000_0000_0000 {
-        return Number {
-            fits: true,
-            bits: u64::MAX - (m - 1),
-        };
-    }
-    Number {
-        fits: false,
-        bits: 0,
+    if m <= 0x8000_0000_0000_0000 {
+        Some(m.wrapping_neg())
+    } else {
+        None
     }
 }
 
 // The attribute number whose token starts at `start`, as a pattern of 64 bits (size 7).
-pub fn pattern_in(text: &[u8], start: usize) -> Number
-    ensures { result ≡ pattern_in (decimal_number text.now start) }
+pub fn pattern_in(text: &[u8], start: usize) -> Option<u64>
+    ensures { number_read result ≡ pattern_in (decimal_number text.now start) }
 {
     let d = decimal_at(text, start);
-    if d.big {
-        return Number {
-            fits: false,
-            bits: 0,
-        };
-    }
+    let magnitude = d.magnitude?;
     if d.negative {
-        return negated_pattern(d.magnitude);
+        negated_pattern(magnitude)
+    } else {
+        pattern_of(magnitude)
     }
-    pattern_of(d.magnitude)
 }

@@ -1,62 +1,35 @@
 // What a tensor type token says: its element type, its shape, and which size it passes.
-ghost use Rattle.std.specs.Prelude.{◌≡◌, ◌+◌, ◌-◌, ◌*◌, ◌≤◌, min, length, get_or, drop, ltb};
+ghost use Rattle.std.specs.Prelude.{◌≡◌, ◌+◌, ◌-◌, ◌*◌, ◌≤◌, min, length, get_or, ltb, Some};
 ghost use Rattle.lists.specs.Lists.{pick};
-ghost use Rattle.scan.specs.Ascii.{ascii};
-ghost use Rattle.scan.specs.Bytes.{starts_with};
-ghost use Rattle.text.specs.Names.{word_is};
 ghost use Rattle.shape.specs.Index.{volume};
 ghost use Rattle.shape.specs.Dims.{dims_of};
-ghost use Rattle.types.specs.Tensors.{width_named, element_named, bytes_between, dimensions_from, byte_count, typed, foreign, type_after, type_of};
+ghost use Rattle.types.specs.Tensors.{width_named, element_named, named_of, dimensions_from, byte_count, first_six, typed, passed_number, type_read, type_after, type_of};
 
 use crate::numbers::digit_of;
 use element::ElementType;
 use limits::Limits;
 use scan::bytes::starts;
-use scan::typetext::{opens_tensor, shape_end, type_close};
+use scan::typetext::{shape_end, type_close};
 use shape::{Shape, volume_of};
 use text::names::is_word;
 
-// The element type that a name stands for, if it is one of 01's.
+// The first of sizes 1 and 2 that a tensor type passes.
 #[derive(Clone, Copy)]
-pub struct Named {
-    pub known: bool,
-    pub element: ElementType,
+pub enum Passed {
+    Rank,
+    Volume,
 }
 
-// A tensor type: whether it is in 01; if so its element type, its shape, of which `dims` has the first six, and the first of sizes 1 and 2 that it passes.
+// A tensor type that is in 01: its element type, its shape, of which `dims` has the first six, and the size that it passes.
 #[derive(Clone, Copy)]
-pub struct TypeRead {
-    pub known: bool,
+pub struct WrittenType {
     pub element: ElementType,
     pub shape: Shape,
-    pub passed: u8,
-}
-
-fn is_8(text: &[u8], start: usize, end: usize) -> bool
-    ensures { result ≡ word_is (ascii "8") text.now start end }
-{
-    is_word(text, start, end, b"8")
-}
-
-fn is_16(text: &[u8], start: usize, end: usize) -> bool
-    ensures { result ≡ word_is (ascii "16") text.now start end }
-{
-    is_word(text, start, end, b"16")
-}
-
-fn is_32(text: &[u8], start: usize, end: usize) -> bool
-    ensures { result ≡ word_is (ascii "32") text.now start end }
-{
-    is_word(text, start, end, b"32")
-}
-
-fn is_64(text: &[u8], start: usize, end: usize) -> bool
-    ensures { result ≡ word_is (ascii "64") text.now start end }
-{
-    is_word(text, start, end, b"64")
+    pub passed: Option<Passed>,
 }
 
 // One of four types, by its width.
+#[tactic(auto, unfolding(crate::specs::Tensors::width_named))]
 fn width_named(
     t8: ElementType,
     t16: ElementType,
@@ -65,74 +38,30 @@ fn width_named(
     text: &[u8],
     start: usize,
     end: usize,
-) -> Named
-    ensures { result ≡ width_named t8 t16 t32 t64 text.now start end }
+) -> Option<ElementType>
+    ensures { named_of result ≡ width_named t8 t16 t32 t64 text.now start end }
 {
-    if is_8(text, start, end) {
-        return Named {
-            known: true,
-            element: t8,
-        };
-    }
-    if is_16(text, start, end) {
-        return Named {
-            known: true,
-            element: t16,
-        };
-    }
-    if is_32(text, start, end) {
-        return Named {
-            known: true,
-            element: t32,
-        };
-    }
-    if is_64(text, start, end) {
-        return Named {
-            known: true,
-            element: t64,
-        };
-    }
-    Named {
-        known: false,
-        element: ElementType::I1,
+    if is_word(text, start, end, b"8") {
+        Some(t8)
+    } else if is_word(text, start, end, b"16") {
+        Some(t16)
+    } else if is_word(text, start, end, b"32") {
+        Some(t32)
+    } else if is_word(text, start, end, b"64") {
+        Some(t64)
+    } else {
+        None
     }
 }
 
-fn is_boolean(text: &[u8], start: usize, end: usize) -> bool
-    ensures { result ≡ word_is (ascii "i1") text.now start end }
+#[tactic(auto, unfolding(crate::specs::Tensors::element_named))]
+fn element_named(text: &[u8], start: usize, end: usize) -> Option<ElementType>
+    ensures { named_of result ≡ element_named text.now start end }
 {
-    is_word(text, start, end, b"i1")
-}
-
-fn opens_signless(text: &[u8], at: usize) -> bool
-    ensures { result ≡ starts_with (ascii "i") (drop at text.now) }
-{
-    starts(text, at, b"i")
-}
-
-fn opens_signed(text: &[u8], at: usize) -> bool
-    ensures { result ≡ starts_with (ascii "si") (drop at text.now) }
-{
-    starts(text, at, b"si")
-}
-
-fn opens_unsigned(text: &[u8], at: usize) -> bool
-    ensures { result ≡ starts_with (ascii "ui") (drop at text.now) }
-{
-    starts(text, at, b"ui")
-}
-
-fn element_named(text: &[u8], start: usize, end: usize) -> Named
-    ensures { result ≡ element_named text.now start end }
-{
-    if is_boolean(text, start, end) {
-        return Named {
-            known: true,
-            element: ElementType::I1,
-        };
-    }
-    if opens_signless(text, start) {
-        return width_named(
+    if is_word(text, start, end, b"i1") {
+        Some(ElementType::I1)
+    } else if starts(text, start, b"i") {
+        width_named(
             ElementType::I8,
             ElementType::I16,
             ElementType::I32,
@@ -140,10 +69,9 @@ fn element_named(text: &[u8], start: usize, end: usize) -> Named
             text,
             start + 1,
             end,
-        );
-    }
-    if opens_signed(text, start) {
-        return width_named(
+        )
+    } else if starts(text, start, b"si") {
+        width_named(
             ElementType::I8,
             ElementType::I16,
             ElementType::I32,
@@ -151,10 +79,9 @@ fn element_named(text: &[u8], start: usize, end: usize) -> Named
             text,
             start + 2,
             end,
-        );
-    }
-    if opens_unsigned(text, start) {
-        return width_named(
+        )
+    } else if starts(text, start, b"ui") {
+        width_named(
             ElementType::U8,
             ElementType::U16,
             ElementType::U32,
@@ -162,30 +89,10 @@ fn element_named(text: &[u8], start: usize, end: usize) -> Named
             text,
             start + 2,
             end,
-        );
+        )
+    } else {
+        None
     }
-    Named {
-        known: false,
-        element: ElementType::I1,
-    }
-}
-
-// How often `b` stands from `at` up to `end`.
-fn count_byte(text: &[u8], at: usize, end: usize, b: u8) -> usize
-    requires { end ≤ length text.now }
-    ensures { result ≡ byte_count b (bytes_between at end text.now) }
-{
-    let mut n = 0;
-    let mut i = at;
-    while i < end {
-        if text[i] == b {
-            n += 1;
-            i += 1;
-        } else {
-            i += 1;
-        }
-    }
-    n
 }
 
 // The digits of v and one more, 4,097 for all above 4,096.
@@ -193,111 +100,97 @@ fn with_digit(v: usize, b: u8) -> usize
     requires { v ≤ 4097 }
     ensures { result ≡ min (v * 10 + (b - 48)) 4097 }
 {
-    let next = v * 10 + digit_of(b);
-    if next < Limits::PAST_VOLUME {
-        return next;
-    }
-    Limits::PAST_VOLUME
+    (v * 10 + usize::from(digit_of(b))).min(Limits::PAST_VOLUME)
 }
 
-// Dimension k of the shape from `at` up to `end`, 4,097 for all above 4,096, 0 where there is none.
-fn dimension(text: &[u8], at: usize, end: usize, k: usize) -> usize
-    requires { end ≤ length text.now }
-    ensures { result ≡ min (get_or (dimensions_from 0 (bytes_between at end text.now)) k 0) 4097 }
+// Dimension k of a shape's text, 4,097 for all above 4,096, 0 where there is none.
+fn dimension(bytes: &[u8], k: usize) -> usize
+    ensures { result ≡ min (get_or (dimensions_from 0 bytes.now) k 0) 4097 }
 {
     let mut left = k;
     let mut v = 0;
-    let mut i = at;
-    while i < end {
-        if text[i] == b'x' {
-            if left == 0 {
-                return v;
-            }
+    for b in bytes {
+        if *b != b'x' {
+            v = with_digit(v, *b);
+        } else if left == 0 {
+            return v;
+        } else {
             left -= 1;
             v = 0;
-            i += 1;
-        } else {
-            v = with_digit(v, text[i]);
-            i += 1;
         }
     }
     0
 }
 
-// The first of sizes 1 and 2 that a shape passes, else 0.
-fn size_passed(s: Shape) -> u8
-    ensures { result ≡ pick (ltb 6 s.rank) 1 (pick (ltb 4096 (volume (dims_of s))) 2 0) }
+// The number of dimensions of a shape's text.
+fn rank_of(bytes: &[u8]) -> usize
+    ensures { result ≡ byte_count 120 bytes.now }
 {
-    if Limits::RANK < s.rank {
-        return 1;
-    }
-    if Limits::VOLUME < volume_of(s) {
-        return 2;
-    }
-    0
+    bytes.iter().filter(|b| **b == b'x').count()
 }
 
-// The type of this element and of the shape from `at` up to `end`.
-fn typed_by(text: &[u8], at: usize, end: usize, element: ElementType) -> TypeRead
-    requires { end ≤ length text.now }
-    ensures { result ≡ typed element (dimensions_from 0 (bytes_between at end text.now)) }
+// The first six dimensions of a shape's text, 4,097 for all above 4,096, 0 where there are fewer.
+fn dimensions(bytes: &[u8]) -> [usize; Limits::RANK]
+    ensures { result ≡ first_six (dimensions_from 0 bytes.now) }
 {
-    let rank = count_byte(text, at, end, b'x');
-    let d0 = dimension(text, at, end, 0);
-    let d1 = dimension(text, at, end, 1);
-    let d2 = dimension(text, at, end, 2);
-    let d3 = dimension(text, at, end, 3);
-    let d4 = dimension(text, at, end, 4);
-    let d5 = dimension(text, at, end, 5);
+    let mut dims = [0; Limits::RANK];
+    for (k, d) in dims.iter_mut().enumerate() {
+        *d = dimension(bytes, k);
+    }
+    dims
+}
+
+// The first of sizes 1 and 2 that a shape passes.
+fn size_passed(s: Shape) -> Option<Passed>
+    ensures { passed_number result ≡ pick (ltb 6 s.rank) 1 (pick (ltb 4096 (volume (dims_of s))) 2 0) }
+{
+    if Limits::RANK < s.rank {
+        Some(Passed::Rank)
+    } else if Limits::VOLUME < volume_of(s) {
+        Some(Passed::Volume)
+    } else {
+        None
+    }
+}
+
+// The type of this element and of the shape that the bytes say.
+fn typed_by(bytes: &[u8], element: ElementType) -> WrittenType
+    ensures { type_read (Some result) ≡ typed element (dimensions_from 0 bytes.now) }
+{
     let shape = Shape {
-        rank: rank,
-        dims: [d0, d1, d2, d3, d4, d5],
+        rank: rank_of(bytes),
+        dims: dimensions(bytes),
     };
-    TypeRead {
-        known: true,
-        element: element,
-        shape: shape,
+    WrittenType {
+        element,
+        shape,
         passed: size_passed(shape),
     }
 }
 
-fn foreign_type() -> TypeRead
-    ensures { result ≡ foreign }
-{
-    TypeRead {
-        known: false,
-        element: ElementType::I1,
-        shape: Shape {
-            rank: 0,
-            dims: [0; Limits::RANK],
-        },
-        passed: 0,
-    }
-}
-
-// The type whose token's `tensor<` ends at `at`.
-fn type_after(text: &[u8], at: usize) -> TypeRead
+// The type whose token's `tensor<` ends at `at`, if it is in 01.
+fn type_after(text: &[u8], at: usize) -> Option<WrittenType>
     requires { at ≤ length text.now }
-    ensures { result ≡ type_after text.now at }
+    ensures { type_read result ≡ type_after text.now at }
 {
     let end = shape_end(text, at);
-    let name = element_named(text, end, type_close(text, at));
-    let element = name.element;
-    if name.known {
-        if count_byte(text, at, end, b'?') == 0 {
-            return typed_by(text, at, end, element);
-        }
-        return foreign_type();
+    let element = element_named(text, end, type_close(text, at))?;
+    let bytes = &text[at..end];
+    if bytes.contains(&b'?') {
+        None
+    } else {
+        Some(typed_by(bytes, element))
     }
-    foreign_type()
 }
 
-// The type whose token starts at `start`.
-pub fn type_at(text: &[u8], start: usize) -> TypeRead
-    ensures { result ≡ type_of text.now start }
+// The type whose token starts at `start`, if it is in 01.
+#[tactic(auto, unfolding(crate::specs::Tensors::type_of))]
+pub fn type_at(text: &[u8], start: usize) -> Option<WrittenType>
+    ensures { type_read result ≡ type_of text.now start }
 {
-    if opens_tensor(text, start) {
-        return type_after(text, start + 7);
+    if starts(text, start, b"tensor<") {
+        type_after(text, start + 7)
+    } else {
+        None
     }
-    foreign_type()
 }

@@ -1,12 +1,13 @@
 -- What is read of any op is within the sizes of 01.
 -- Assumes nothing.
-use Prim.Native.Nat.{ℕ, ◌<◌, ◌≤◌}
+use Prim.Native.Nat.{ℕ, zero, suc, ◌<◌, ◌≤◌}
 use mathlib.Core.Path.{◌≡◌, refl, ap, ◌∙◌, sym}
 use mathlib.Core.Bool.{Bool, true, false, ◌&&◌}
 use mathlib.Core.List.{List}
 use native.Mathlib.Omega.{arith}
 use lib.ListN.{length, get_or, replicate}
-use lib.Dec.{ltb}
+use lib.Dec.{ltb, eqb, eqb-suc-zero}
+use Rattle.std.specs.Prelude.{Option, Some, None, Ok, Err}
 use Rattle.lists.specs.Lists.{pick, tab}
 use Rattle.lists.proofs.TabLaw.{get_or-tab}
 use Rattle.shape.specs.Dims.{Sized}
@@ -23,7 +24,10 @@ use Rattle.bodies.specs.Bodies.{argument_type}
 use Rattle.bodies.proofs.BodiesLaw.{argument-sized}
 use Rattle.operands.specs.Operands.{arity_of}
 use Rattle.operands.proofs.OperandsLaw.{arity-few}
-use Rattle.typing.specs.Typing.{types_of, body_type, operation_of}
+use Rattle.rules.specs.Constraint.{constraint_of}
+use Rattle.typing.specs.declared.OpFault.{OpFault}
+use Rattle.typing.specs.declared.OpFault.TheVariants.{Constraint}
+use Rattle.typing.specs.Typing.{Judged, judged_of, types_of, body_type, operation_of}
 
 -- ---- sizes
 
@@ -59,3 +63,16 @@ and-true false = refl
 
 pub few : (text : List ℕ) (op : Parts) (row : Row) → (operation_of text op row).arity ≤ 8
 few text op row = (read-sizes text op row).arity
+
+-- ---- refusal 8 by the number of the constraint
+
+abbrev numbered : ℕ → Judged
+numbered k = record { refusal = pick (eqb k 0) 0 8; b = k }
+
+pub some-judged : (k n : ℕ) → Some n ≡ constraint_of k → judged_of (Err (Constraint n)) ≡ numbered k
+some-judged zero n e = cc
+some-judged (suc k) n e = let q : n ≡ suc k = cc in rw (q, eqb-suc-zero k) refl
+
+pub none-judged : (k : ℕ) → None ≡ constraint_of k → judged_of (Ok tt) ≡ numbered k
+none-judged zero e = refl
+none-judged (suc k) e = cc

@@ -1,6 +1,6 @@
 -- One op against the values before it and its row of the op table: refusals 7 and 8.
 -- Assumes nothing.
-use Rattle.std.specs.Prelude.{ℕ, List, Bool, true, ◌&&◌, ltb, eqb, length}
+use Rattle.std.specs.Prelude.{ℕ, List, Result, Ok, Err, Bool, true, ◌&&◌, ltb, eqb, length}
 use Rattle.lists.specs.Lists.{pick, tab}
 use Rattle.optable.specs.Table.{value, compare_type, ops, row_at}
 use Rattle.optable.specs.declared.Row.{Row}
@@ -13,7 +13,8 @@ use Rattle.values.specs.declared.Value.{Value}
 use Rattle.operands.specs.Operands.{arity_of, operands_typed}
 use Rattle.attributes.specs.Attributes.{attributes_fit, attribute_numbers, choice_of, dense_type}
 use Rattle.bodies.specs.Bodies.{row_named, body_fits, argument_type}
-use Rattle.typing.specs.declared.Judged.{Judged}
+use Rattle.typing.specs.declared.OpFault.{OpFault}
+use Rattle.typing.specs.declared.OpFault.TheVariants.{Typing, Constraint}
 
 -- ---- what is read of an op
 
@@ -76,6 +77,16 @@ typed_op text op row values n =
 -- ---- refusals 7 and 8
 
 -- a refusal of kind 7 or 8 and its B; 0: none
+pub record Judged : Type 0 where
+  pub refusal : ℕ
+  pub b : ℕ
+
+-- the two numbers of what the code answers
+abbrev pub judged_of : Result (Unit {0}) OpFault → Judged
+judged_of (Ok u) = record { refusal = 0; b = 0 }
+judged_of (Err Typing) = record { refusal = 7; b = 0 }
+judged_of (Err (Constraint c)) = record { refusal = 8; b = c }
+
 unfoldable pub op_judged : List ℕ → Parts → List Value → ℕ → Judged
 op_judged text op values n =
     let row = row_named_in text op in

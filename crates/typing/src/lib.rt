@@ -1,13 +1,14 @@
 // One op against the values before it and its row of the op table: refusals 7 and 8.
 #![tactic(auto)]
 
-ghost use Rattle.std.specs.Prelude.{◌≡◌, ◌<◌, ◌≤◌, eqb};
-ghost use Rattle.lists.specs.Lists.{tab, pick};
+ghost use Rattle.std.specs.Prelude.{◌≡◌, ◌<◌, ◌≤◌};
+ghost use Rattle.lists.specs.Lists.{tab};
 ghost use Rattle.operands.specs.Operands.{arity_of};
+ghost use Rattle.typing.specs.Typing.{judged_of};
 ghost use Rattle.typing.specs.Typing.{row_named_in, types_of, body_type, operation_of, results_are, bodies_fit, in_table, typed_op, op_judged};
 
 use bodies::{argument_type, body_fits, row_named};
-use dimrules::{TensorType, both};
+use dimrules::TensorType;
 use limits::Limits;
 use opcheck::{Operation, broken_by, taken_by_tables};
 use operands::{arity_of, operands_typed};
@@ -16,11 +17,13 @@ use places::{Part, blank_type, count_of, place_of, type_of};
 use program::Parts;
 use values::Values;
 
-// A refusal of kind 7 or 8 and its B; refusal 0: none.
+// What refuses an op after its names.
 #[derive(Clone, Copy)]
-pub struct Judged {
-    pub refusal: usize,
-    pub b: usize,
+pub enum OpFault {
+    // Refusal 7.
+    Typing,
+    // Refusal 8, by the C number of the broken constraint.
+    Constraint(usize),
 }
 
 // The op's row of the op table.
@@ -44,11 +47,9 @@ fn type_at(text: &[u8], op: Parts, j: usize) -> TensorType
 fn types_of(text: &[u8], op: Parts) -> [TensorType; Limits::OPERANDS]
     ensures { result ≡ tab 8 (types_of text.now op) }
 {
-    let none = blank_type();
-    let mut types = [none; Limits::OPERANDS];
+    let mut types = [blank_type(); Limits::OPERANDS];
     for j in 0..Limits::OPERANDS {
-        let t = type_at(text, op, j);
-        types[j] = t;
+        types[j] = type_at(text, op, j);
     }
     types
 }
@@ -93,22 +94,21 @@ pub fn operation_of(text: &[u8], op: Parts, row: Row) -> Operation
 }
 
 // Whether there are so many result names and result types.
+#[tactic(auto, unfolding(crate::specs::Typing::results_are))]
 pub fn results_are(n: usize, op: Parts) -> bool
     ensures { result ≡ results_are n op }
 {
-    both(
-        count_of(op, Part::RESULT_NAME) == n,
-        count_of(op, Part::RESULT_TYPE) == n,
-    )
+    count_of(op, Part::RESULT_NAME) == n && count_of(op, Part::RESULT_TYPE) == n
 }
 
 // Whether there are as many bodies as the row says, of the form that a reduction asks.
+#[tactic(auto, unfolding(crate::specs::Typing::bodies_fit))]
 fn bodies_fit(text: &[u8], op: Parts, row: Row) -> bool
     ensures { result ≡ bodies_fit text.now op row }
 {
     let n = count_of(op, Part::BODY_OPEN);
     if row.body {
-        return both(n == 1, body_fits(text, place_of(op, Part::BODY_OPEN, 0)));
+        return n == 1 && body_fits(text, place_of(op, Part::BODY_OPEN, 0));
     }
     n == 0
 }
@@ -119,37 +119,31 @@ fn in_table(text: &[u8], op: Parts) -> bool
     row_named(text, place_of(op, Part::OP_NAME, 0)) < Ops::COUNT
 }
 
+#[tactic(auto, unfolding(crate::specs::Typing::typed_op))]
 fn typed_op(text: &[u8], op: Parts, row: Row, o: Operation, values: Values, n: usize) -> bool
     requires { (n ≤ 264) × (o ≡ operation_of text.now op row) }
     ensures { result ≡ typed_op text.now op row values.list n }
 {
-    let known = both(in_table(text, op), operands_typed(text, op, values, n));
-    let operands = both(known, results_are(1, op));
-    let named = both(operands, attributes::attributes_fit(text, op, row));
-    let taken = both(named, taken_by_tables(row, o));
-    both(taken, bodies_fit(text, op, row))
-}
-
-// Refusal 8 and the number of the constraint, or none.
-fn judged_by(c: usize) -> Judged
-    ensures { result ≡ record { refusal = pick (eqb c 0) 0 8; b = c } }
-{
-    if c == 0 {
-        return Judged { refusal: 0, b: 0 };
-    }
-    Judged { refusal: 8, b: c }
+    in_table(text, op)
+        && operands_typed(text, op, values, n)
+        && results_are(1, op)
+        && attributes::attributes_fit(text, op, row)
+        && taken_by_tables(row, o)
+        && bodies_fit(text, op, row)
 }
 
 // Refusals 7 and 8 of an op.
-pub fn op_judged(text: &[u8], op: Parts, values: Values, n: usize) -> Judged
+pub fn op_judged(text: &[u8], op: Parts, values: Values, n: usize) -> Result<(), OpFault>
     requires { n ≤ 264 }
-    ensures { result ≡ op_judged text.now op values.list n }
+    ensures { judged_of result ≡ op_judged text.now op values.list n }
 {
     let row = row_of(text, op);
     let o = operation_of(text, op, row);
-    let rule = row.rule;
-    if typed_op(text, op, row, o, values, n) {
-        return judged_by(broken_by(rule, o));
+    if !typed_op(text, op, row, o, values, n) {
+        return Err(OpFault::Typing);
     }
-    Judged { refusal: 7, b: 0 }
+    match broken_by(row.rule, o) {
+        Some(c) => Err(OpFault::Constraint(c)),
+        None => Ok(()),
+    }
 }

@@ -1,10 +1,9 @@
 -- The operations on single values, each where it differs from its neighbours (01, "Element by element" and "Reductions").
 -- Assumes nothing.
-use Rattle.std.specs.Prelude.{List, [], ◌∷◌, map, ℕ}
+use Rattle.std.specs.Prelude.{List, [], ◌∷◌, map, ℕ, Some, None}
 use Rattle.element.specs.declared.ElementType.{ElementType}
 use Rattle.element.specs.declared.ElementType.TheVariants.{I1, I8, I16, I32, I64, U8, U16, U32, U64}
 use Rattle.division.specs.Division.{division_of, divided_numbers}
-use Rattle.division.specs.declared.Divided.TheVariants.{Value, ByZero}
 use Rattle.division.specs.declared.Division.{Division}
 use Rattle.division.specs.declared.Division.TheVariants.{Divide, Remainder}
 use Rattle.scalar.specs.Ops.{unary_of, binary_of, compare_of, clamp_of, select_of, convert_of, iota_of}
@@ -100,7 +99,7 @@ scalar_pins =
     ∷ refusal_pin Divide I8 (5 ∷ 0 ∷ neg 128 ∷ 5 ∷ []) (0 ∷ 0 ∷ 0 ∷ 1 ∷ []) (12 ∷ 12 ∷ 12 ∷ 0 ∷ [])
     ∷ refusal_pin Remainder I8 (5 ∷ 0 ∷ neg 128 ∷ 5 ∷ []) (0 ∷ 0 ∷ 0 ∷ 1 ∷ []) (12 ∷ 12 ∷ 12 ∷ 0 ∷ [])
     ∷ refusal_pin Divide U64 (18446744073709551615 ∷ 0 ∷ []) (0 ∷ 1 ∷ []) (12 ∷ 0 ∷ [])
-    ∷ value_pin ((divided_numbers (Value 5)).0 ∷ (divided_numbers (Value 5)).1 ∷ (divided_numbers ByZero).0 ∷ (divided_numbers ByZero).1 ∷ []) (0 ∷ 5 ∷ 12 ∷ 0 ∷ [])
+    ∷ value_pin ((divided_numbers (Some 5)).0 ∷ (divided_numbers (Some 5)).1 ∷ (divided_numbers None).0 ∷ (divided_numbers None).1 ∷ []) (0 ∷ 5 ∷ 12 ∷ 0 ∷ [])
     -- "abs of the lowest value saturates to the highest"
     ∷ unary_pin Abs I8 (neg 128 ∷ neg 127 ∷ neg 1 ∷ 0 ∷ 1 ∷ 127 ∷ []) (127 ∷ 127 ∷ 1 ∷ 0 ∷ 1 ∷ 127 ∷ [])
     ∷ unary_pin Abs I64 (neg 9223372036854775808 ∷ neg 1 ∷ 1 ∷ []) (9223372036854775807 ∷ 1 ∷ 1 ∷ [])

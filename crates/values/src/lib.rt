@@ -28,11 +28,14 @@ pub struct Values {
 fn no_value() -> Value
     ensures { result ≡ no_value }
 {
-    let ty = blank_type();
-    Value { name: 0, ty }
+    Value {
+        name: 0,
+        ty: blank_type(),
+    }
 }
 
 // Input i of a header.
+#[tactic(auto, unfolding(crate::specs::Values::input_value))]
 pub fn input_value(text: &[u8], header: Parts, i: usize) -> Value
     requires { i < 8 }
     ensures { result ≡ input_value text.now header i }
@@ -43,6 +46,7 @@ pub fn input_value(text: &[u8], header: Parts, i: usize) -> Value
 }
 
 // The result of an op.
+#[tactic(auto, unfolding(crate::specs::Values::result_value))]
 pub fn result_value(text: &[u8], op: Parts) -> Value
     ensures { result ≡ result_value text.now op }
 {
@@ -51,29 +55,19 @@ pub fn result_value(text: &[u8], op: Parts) -> Value
     Value { name, ty }
 }
 
+#[tactic(auto, unfolding(crate::specs::Values::inputs_of))]
 pub fn inputs_of(p: Program) -> usize
     ensures { result ≡ inputs_of p }
 {
-    let header = p.header;
-    let n = count_of(header, Part::INPUT_NAME);
-    if n < Limits::OPERANDS {
-        return n;
-    }
-    Limits::OPERANDS
+    count_of(p.header, Part::INPUT_NAME).min(Limits::OPERANDS)
 }
 
 // How many ops there are, the return not counted.
+#[tactic(auto, unfolding(crate::specs::Values::ops_of))]
 pub fn ops_of(p: Program) -> usize
     ensures { result ≡ ops_of p }
 {
-    let n = p.count;
-    if n == 0 {
-        return 0;
-    }
-    if n < Limits::OPS_WITH_RETURN {
-        return n - 1;
-    }
-    Limits::OPS
+    p.count.saturating_sub(1).min(Limits::OPS)
 }
 
 pub fn value_at(text: &[u8], p: Program, i: usize) -> Value
@@ -82,11 +76,9 @@ pub fn value_at(text: &[u8], p: Program, i: usize) -> Value
 {
     let n = inputs_of(p);
     if i < n {
-        let header = p.header;
-        return input_value(text, header, i);
+        return input_value(text, p.header, i);
     }
-    let ops = p.ops;
-    result_value(text, op_at(text, ops[i - n]))
+    result_value(text, op_at(text, p.ops[i - n]))
 }
 
 fn value_or_none(text: &[u8], p: Program, i: usize) -> Value
@@ -101,21 +93,20 @@ fn value_or_none(text: &[u8], p: Program, i: usize) -> Value
 pub fn values_in(text: &[u8], p: Program) -> Values
     ensures { result ≡ values_in text.now p }
 {
-    let none = no_value();
-    let mut list = [none; Limits::VALUES];
+    let mut list = [no_value(); Limits::VALUES];
     for i in 0..Limits::VALUES {
         list[i] = value_or_none(text, p, i);
     }
     let inputs = inputs_of(p);
-    let count = inputs + ops_of(p);
     Values {
         inputs,
-        count,
+        count: inputs + ops_of(p),
         list,
     }
 }
 
 // The values of a text's program.
+#[tactic(auto, unfolding(crate::specs::Values::values_of))]
 pub fn values_of(text: &[u8]) -> Values
     ensures { result ≡ values_of text.now }
 {

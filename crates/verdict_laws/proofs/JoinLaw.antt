@@ -17,14 +17,14 @@ use Rattle.syntax.specs.Readings.{Reading, readings_of}
 use Rattle.grammar.specs.Symbols.{Op}
 use Rattle.optable.specs.declared.Row.{Row}
 use Rattle.optable.specs.Table.{OpRow, ops, row_at, rows_from, no_row, row_of as row_for}
-use Rattle.judge.specs.declared.Refusal.{Refusal}
+use Rattle.judge.specs.Refusals.{Refusal}
 use Rattle.judge.specs.Judge.{refuse, accepted, text_refusal}
 use Rattle.program.specs.declared.Parts.{Parts}
 use Rattle.program.specs.declared.Program.{Program}
 use Rattle.program.specs.Parts.{op_at}
 use Rattle.program.specs.Program.{program_of}
 use Rattle.places.specs.Places.{op_name, operand_name, body_open, input_name, output_type, count_of, place_of}
-use Rattle.scope.specs.declared.NameFault.{NameFault}
+use Rattle.scope.specs.Faults.{NameFault}
 use Rattle.values.specs.declared.Value.{Value}
 use Rattle.values.specs.declared.Values.{Values}
 use Rattle.values.specs.Values.{no_value, values_in}
@@ -35,7 +35,7 @@ use Rattle.opcheck.specs.Judged.{broken_by}
 use Rattle.attributes.specs.Attributes.{attributes_fit}
 use Rattle.bodies.specs.Bodies.{body_fits, row_named}
 use Rattle.operands.specs.Operands.{value_named}
-use Rattle.typing.specs.declared.Judged.{Judged}
+use Rattle.typing.specs.Typing.{Judged}
 use Rattle.typing.specs.Typing.{row_named_in, operation_of, in_table, typed_op, op_judged}
 use Rattle.outputs.specs.Outputs.{typed_return, return_judged}
 use Rattle.opwise.specs.Opwise.{by_name, by_op, typing_of, op_refusal, ops_from}

@@ -20,7 +20,7 @@ use Rattle.optable.specs.declared.Rule.{Rule}
 use Rattle.optable.specs.declared.Rule.TheVariants as rule
 use Rattle.optable.specs.Table.{OpRow, ops, row_at, row_of as row_for, value}
 use Rattle.checks.specs.Check.{Check, broken_number}
-use Rattle.judge.specs.declared.Refusal.{Refusal}
+use Rattle.judge.specs.Refusals.{Refusal}
 use Rattle.judge.specs.Judge.{text_refusal}
 use Rattle.program.specs.Program.{program_of}
 use Rattle.places.specs.Places.{attribute_name, body_open, count_of, place_of}

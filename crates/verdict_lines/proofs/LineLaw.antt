@@ -12,7 +12,7 @@ use Rattle.laid.specs.Laid.{Laid, laid, put, lay, written}
 use Rattle.laid.proofs.LaidLaw.{lay-room, lay-one}
 use Rattle.printed.specs.Printed.{decimal}
 use Rattle.printed.proofs.PrintLaw.{then-lay, then-put}
-use Rattle.judge.specs.declared.Refusal.{Refusal}
+use Rattle.judge.specs.Refusals.{Refusal}
 use Rattle.verdict_lines.specs.Lines.{spaced, refused_line, answer_line}
 use Rattle.verdict_lines.proofs.DecimalLaw.{all_digits, few-digits, at-most-20}
 

@@ -9,7 +9,7 @@ use borrow.Author.Tests.{ltb-true, ltb-false}
 use lib.Dec.{ltb}
 use Rattle.lists.specs.Lists.{pick}
 use lib.ListN.{length, length-append}
-use Rattle.judge.specs.declared.Refusal.{Refusal}
+use Rattle.judge.specs.Refusals.{Refusal}
 use Rattle.laid.specs.Laid.{Laid, written}
 use Rattle.judge.specs.Judge.{refuse}
 use Rattle.judge.proofs.Theorems.{too_long}

@@ -4,7 +4,7 @@ use Rattle.std.specs.Prelude.{ℕ, ◌+◌, List, [], ◌∷◌, ◌++◌, eqb, 
 use Rattle.lists.specs.Lists.{pick}
 use Rattle.scan.specs.Ascii.{ascii}
 use Rattle.printed.specs.Printed.{decimal}
-use Rattle.judge.specs.declared.Refusal.{Refusal}
+use Rattle.judge.specs.Refusals.{Refusal}
 use Rattle.judge.specs.Judge.{refuse}
 use Rattle.verify.specs.Verify.{verdict}
 

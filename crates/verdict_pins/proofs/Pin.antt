@@ -7,7 +7,7 @@ use Prim.Native.String.{String}
 use lib.ListN.{get_or, drop}
 use Rattle.lists.specs.Lists.{All}
 use Rattle.scan.specs.Ascii.{ascii}
-use Rattle.judge.specs.declared.Refusal.{Refusal}
+use Rattle.judge.specs.Refusals.{Refusal}
 use Rattle.judge.specs.Judge.{refuse, accepted}
 use Rattle.verify.specs.Verify.{verdict}
 

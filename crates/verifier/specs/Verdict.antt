@@ -1,18 +1,17 @@
 -- Refusals 0 to 8 of a text (01, "The twelve refusals"): "Refusals 1 to 4 come first .. Then duplicate input names, then op by op names (5, 6), 7, 8, the lowest C
 -- number first. .. Ops count from 0, the return last".
 -- Assumes nothing.
-use Rattle.std.specs.Prelude.{ℕ, suc, List, [], ◌∷◌, ◌++◌, map, Bool, false, eqb, get_or}
+use Rattle.std.specs.Prelude.{ℕ, suc, List, [], ◌∷◌, ◌++◌, map, Bool, false, eqb, get_or, None}
 use Rattle.lists.specs.Lists.{pick}
-use Rattle.scope.specs.declared.NameFault.{NameFault}
+use Rattle.scope.specs.Faults.{NameFault}
 use Rattle.names.specs.Names.{Checked, then_checked, checked_fault, defined, settled, names_read, input_names_fault}
 use Rattle.values.specs.declared.Value.{Value}
 use Rattle.optable.specs.Table.{OpRow, ops}
 use Rattle.optable.specs.declared.Takes.TheVariants.{Any}
 use Rattle.optable.specs.declared.Rule.TheVariants as rule
 use Rattle.optable.specs.declared.Class.TheVariants.{Constant}
-use Rattle.optable.specs.declared.Reducer.TheVariants.{Not}
 use Rattle.checks.specs.Check.{broken_number}
-use Rattle.judge.specs.declared.Refusal.{Refusal}
+use Rattle.judge.specs.Refusals.{Refusal}
 use Rattle.judge.specs.Judge.{refuse, accepted, text_refusal}
 use Rattle.source.specs.Source.{OpText, FunctionText, function_of}
 use Rattle.verifier.specs.DefinedValues.{inputs_defined, result_defined}
@@ -22,7 +21,7 @@ use Rattle.verifier.specs.ConstraintRules.{checks_written}
 
 -- its row of the op table: refusal 3 has answered for a name that has none
 abbrev pub no_op : OpRow
-no_op = record { name = []; least = 0; most = 0; required = []; optional = []; body = false; first = Any; rest = Any; scalars = false; result = Any; rule = rule.SameTypes; class = Constant; reducer = Not }
+no_op = record { name = []; least = 0; most = 0; required = []; optional = []; body = false; first = Any; rest = Any; scalars = false; result = Any; rule = rule.SameTypes; class = Constant; reducer = None }
 
 abbrev pub row_written : List ℕ → OpText → OpRow
 row_written text op = get_or ops (op_number text op) no_op

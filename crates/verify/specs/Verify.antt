@@ -3,7 +3,7 @@
 -- Assumes nothing.
 use Rattle.std.specs.Prelude.{ℕ, List, eqb}
 use Rattle.lists.specs.Lists.{pick}
-use Rattle.judge.specs.declared.Refusal.{Refusal}
+use Rattle.judge.specs.Refusals.{Refusal}
 use Rattle.judge.specs.Judge.{text_refusal}
 use Rattle.program.specs.declared.Program.{Program}
 use Rattle.program.specs.Program.{program_of}

@@ -2,13 +2,14 @@
 #![tactic(auto)]
 
 ghost use Rattle.std.specs.Prelude.{◌≡◌, ◌≤◌};
+ghost use Rattle.judge.specs.Refusals.{numbers_of};
 ghost use Rattle.judge.specs.Judge.{text_refusal};
 ghost use Rattle.program.specs.Program.{program_of};
 ghost use Rattle.values.specs.Values.{values_in};
 ghost use Rattle.opwise.specs.Opwise.{Lent};
 ghost use Rattle.verify.specs.Verify.{program_refusal, verdict};
 
-use judge::{Refusal, read_refusal};
+use judge::{Refused, read_refusal};
 use known::{Entries, input_names};
 use opwise::{by_name, first_refused};
 use program::{Program, program_of};
@@ -22,22 +23,18 @@ fn program_refusal(
     vs: Values,
     stack: &mut [u8],
     entries: &mut [usize],
-) -> Refusal
+) -> Result<(), Refused>
     requires { (p.count ≤ 257) × (vs.inputs ≤ 8) × Lent text.now stack.old entries.old }
-    ensures { result ≡ program_refusal text.now p vs }
+    ensures { numbers_of result ≡ program_refusal text.now p vs }
 {
-    let header = p.header;
-    let f = input_names(text, header, vs.inputs, entries);
-    if f.refusal == 0 {
-        return first_refused(text, p, vs, stack, entries);
-    }
-    by_name(f)
+    by_name(input_names(text, p.header, vs.inputs, entries))?;
+    first_refused(text, p, vs, stack, entries)
 }
 
 // Refusals 5 to 8 of a text without refusals 1 to 4.
-fn checked(text: &[u8]) -> Refusal
+fn checked(text: &[u8]) -> Result<(), Refused>
     requires { (text_refusal text.now).number ≡ 0 }
-    ensures { result ≡ program_refusal text.now (program_of text.now) (values_in text.now (program_of text.now)) }
+    ensures { numbers_of result ≡ program_refusal text.now (program_of text.now) (values_in text.now (program_of text.now)) }
 {
     let mut stack: [u8; Stack::SIZE] = [0; Stack::SIZE];
     let mut entries: [usize; Entries::SIZE] = [0; Entries::SIZE];
@@ -47,12 +44,9 @@ fn checked(text: &[u8]) -> Refusal
 }
 
 // The refusal of a text of kinds 0 to 8, A and B.
-pub fn check(text: &[u8]) -> Refusal
-    ensures { result ≡ verdict text.now }
+pub fn check(text: &[u8]) -> Result<(), Refused>
+    ensures { numbers_of result ≡ verdict text.now }
 {
-    let r = read_refusal(text);
-    if r.number == 0 {
-        return checked(text);
-    }
-    r
+    read_refusal(text)?;
+    checked(text)
 }

@@ -1,3 +1,4 @@
+use mathlib.Core.Logic.{inl, inr}
 use Rattle.apply.proofs.ApplyLaw.{kind-ready, kind-is, iota-small, iota-is, unary-is, binary-is, compare-is, convert-is, select-is, clamp-is, moved-is, pad-is, dynamic-is, reduce-is}
 use Rattle.apply.proofs.fill.Goals as goal
 
@@ -70,8 +71,13 @@ reduce-requires c =
 pub returns-in-Constant : goal.returns-in-Constant
 returns-in-Constant c =
     let args = c.args in
-    let h = kind-ready args.k args.x.now args.y.now args.z.now args.out.now c.in-Constant.is c.requires in
-    absurd h
+    elim c.in-Constant.is [
+      | inl e ↦ absurd (kind-ready args.k args.x.now args.y.now args.z.now args.out.now e c.requires)
+      | inr s ↦ elim s [
+        | inl p ↦ absurd (kind-ready args.k args.x.now args.y.now args.z.now args.out.now p.1 c.requires)
+        | inr e ↦ absurd (kind-ready args.k args.x.now args.y.now args.z.now args.out.now e c.requires)
+      ]
+    ]
 
 pub returns-in-Iota : goal.returns-in-Iota
 returns-in-Iota c =
@@ -93,12 +99,6 @@ returns-in-Pairwise c =
     let h = kind-ready args.k args.x.now args.y.now args.z.now args.out.now c.in-Pairwise.is c.requires in
     kind-is args.k args.x.now args.y.now args.z.now args.starts c.in-Pairwise.is
     (binary-is args.k args.starts args.x.now args.y.now args.z.now h.0 c.in-Pairwise.op c.binary_into.ensures)
-
-pub returns-in-Quotient : goal.returns-in-Quotient
-returns-in-Quotient c =
-    let args = c.args in
-    let h = kind-ready args.k args.x.now args.y.now args.z.now args.out.now c.in-Quotient.is c.requires in
-    absurd h
 
 pub returns-in-Compare : goal.returns-in-Compare
 returns-in-Compare c =
@@ -141,12 +141,6 @@ returns-in-Pad c =
     let h = kind-ready args.k args.x.now args.y.now args.z.now args.out.now c.in-Pad.is c.requires in
     kind-is args.k args.x.now args.y.now args.z.now args.starts c.in-Pad.is
     (pad-is args.k args.starts args.x.now args.y.now args.z.now _ c.first_of-v.ensures h.2 h.3 c.pad.ensures)
-
-pub returns-in-Concatenate : goal.returns-in-Concatenate
-returns-in-Concatenate c =
-    let args = c.args in
-    let h = kind-ready args.k args.x.now args.y.now args.z.now args.out.now c.in-Concatenate.is c.requires in
-    absurd h
 
 pub returns-in-DynamicSlice : goal.returns-in-DynamicSlice
 returns-in-DynamicSlice c =

@@ -1,6 +1,9 @@
+use mathlib.Core.Path.{◌∙◌, ap}
+use Rattle.text.specs.declared.Token.{Token}
+use Rattle.optable.specs.Find.{find_choice}
 use Rattle.attribute.specs.Attribute.{choice_at}
 use Rattle.attribute.proofs.choice_at.Goals as goal
 
-pub returns : goal.returns
+pub returns-clause-found : goal.returns-clause-found
 unfolding choice_at
-returns c = simp (← c.find_choice.ensures, ← c.find_choice_kind.ensures, ← c.token_after-choice.ensures, ← c.token_after-kind.ensures)
+returns-clause-found c = c.find_choice.ensures.found ∙ ap (λ (t : Token). find_choice c.args.text.now t.start t.end) c.token_after-choice.ensures

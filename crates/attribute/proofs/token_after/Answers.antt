@@ -1,22 +1,23 @@
-use mathlib.Core.Path.{refl, sym, ◌∙◌}
+use mathlib.Core.Path.{◌≡◌, sym, ◌∙◌}
+use Prim.Native.Nat.{◌+◌, ◌-◌}
 use native.Mathlib.Omega.{arith}
+use native.Mathlib.Numerals.{unary_clauses}
 use Rattle.attribute.proofs.ScanLaw.{after-step, after_none}
 use Rattle.attribute.proofs.token_after.Goals as goal
 
-pub loop-left-init : goal.loop-left-init
-loop-left-init c = refl
+pub loop-init : goal.loop-init
+loop-init c = (omega arith, simp unary_clauses)
 
-pub loop-left-preserved : goal.loop-left-preserved
-loop-left-preserved c =
-    let h = c in
-    let l = h.loop-left in
-    let text = h.args.text.now in
-    let t = c.loop-left-test.true in
-    rw c.past-c.ensures (sym (after-step l.left text l.c (omega arith)) ∙ l.invariant)
+pub loop-preserved : goal.loop-preserved
+loop-preserved c =
+    let l = c.loop in
+    let text = c.args.text.now in
+    let t = c.loop-test.true in
+    let e : c.args.n - (l.counter + 1) ≡ c.args.n - l.counter - 1 = omega arith in
+    (omega arith, rw (e, c.past-c.ensures) (sym (after-step (c.args.n - l.counter) text l.c (omega arith)) ∙ l.invariant.1))
 
 pub returns : goal.returns
 returns c =
-    let h = c in
-    let l = h.loop-left in
-    let text = h.args.text.now in
-    c.token.ensures ∙ sym (after_none l.left text l.c (omega arith)) ∙ l.invariant
+    let l = c.loop in
+    let t = c.loop-test.false in
+    c.token.ensures ∙ sym (after_none (c.args.n - l.counter) c.args.text.now l.c (omega arith)) ∙ l.invariant.1

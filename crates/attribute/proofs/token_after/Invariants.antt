@@ -1,9 +1,7 @@
 use mathlib.Core.Path.{◌≡◌}
+use Prim.Native.Nat.{◌-◌, ◌≤◌}
 use Rattle.attribute.specs.Attribute.{token_after}
 use Rattle.attribute.proofs.token_after.Given as goal
 
-abbrev pub invariant-loop-left : goal.invariant-loop-left
-invariant-loop-left l = token_after l.left l.text l.c.at ≡ token_after l.n l.text l.initial.c.at
-
-abbrev pub decreases-loop-left : goal.decreases-loop-left
-decreases-loop-left l = l.left
+abbrev pub invariant-loop : goal.invariant-loop
+invariant-loop l = (l.counter ≤ l.n) × (token_after (l.n - l.counter) l.text l.c.at ≡ token_after l.n l.text l.fn.from.at)

@@ -2,10 +2,10 @@ use borrow.Author.Tests.{lt-ltb, le-ltb}
 use Rattle.attribute.specs.Attribute.{with_number}
 use Rattle.attribute.proofs.with_number.Goals as goal
 
-pub returns-then-n-lt-LIST : goal.returns-then-n-lt-LIST
+pub returns-then-next-lt-LIST : goal.returns-then-next-lt-LIST
 unfolding with_number
-returns-then-n-lt-LIST c = simp (lt-ltb _ _ c.if-n-lt-LIST.true)
+returns-then-next-lt-LIST c = simp (lt-ltb _ _ c.if-next-lt-LIST.true)
 
-pub returns : goal.returns
+pub returns-else-next-lt-LIST : goal.returns-else-next-lt-LIST
 unfolding with_number
-returns c = simp (le-ltb _ _ c.if-n-lt-LIST.false)
+returns-else-next-lt-LIST c = simp (le-ltb _ _ c.if-next-lt-LIST.false)

@@ -1,20 +1,41 @@
-use borrow.Author.Tests.{le-ltb, lt-ltb, ne_eqb, eq-eqb}
-use Rattle.optable.proofs.TableLaw.{attributes-count}
+use mathlib.Core.Path.{sym, ap, ◌∙◌}
+use Prim.Native.Nat.{ℕ}
+use lib.Dec.{eqb}
+use Rattle.std.specs.Prelude.{unwrap_or}
+use borrow.Author.Tests.{ne_eqb, eq-eqb}
 use Rattle.attributes.specs.Attributes.{attribute_fits}
+use Rattle.attributes.proofs.AttributesLaw.{found-below}
+use Rattle.attributes.proofs.KindLaw.{kind-none, kind-some}
 use Rattle.attributes.proofs.attribute_fits.Goals as goal
 
-pub returns-then-k-ge-NONE : goal.returns-then-k-ge-NONE
+pub returns-in_default : goal.returns-in_default
 unfolding attribute_fits
-returns-then-k-ge-NONE c = simp (attributes-count, le-ltb _ _ c.if-k-ge-NONE.true, ← c.attribute_of-k.ensures)
+returns-in_default c = simp (← c.attribute_of-k.ensures, kind-none _ c.in_default.ensures)
 
-pub returns-then-attribute_slot-ge-COLUMNS : goal.returns-then-attribute_slot-ge-COLUMNS
+pub returns-then-is_none : goal.returns-then-is_none
 unfolding attribute_fits
-returns-then-attribute_slot-ge-COLUMNS c = simp (attributes-count, le-ltb _ _ c.if-attribute_slot-ge-COLUMNS.true, ← c.attribute_slot.ensures, lt-ltb _ _ c.if-k-ge-NONE.false, ← c.attribute_of-k.ensures)
+returns-then-is_none c =
+    let s = kind-some _ _ c.in-Some.ensures in
+    let slot = c.attribute_slot.ensures in
+    let n = sym (found-below c.attribute_slot.result _ _ slot.found slot.within) ∙ c.if-is_none.ensures in
+    simp (← c.attribute_of-k.ensures, s, n)
 
-pub returns-then-stands_at-j : goal.returns-then-stands_at-j
+pub returns-then-unwrap_or-j : goal.returns-then-unwrap_or-j
 unfolding attribute_fits
-returns-then-stands_at-j c = simp (attributes-count, ne_eqb _ _ c.if-stands_at-j.true, ← c.stands_at.ensures, lt-ltb _ _ c.if-attribute_slot-ge-COLUMNS.false, ← c.attribute_slot.ensures, lt-ltb _ _ c.if-k-ge-NONE.false, ← c.attribute_of-k.ensures)
+returns-then-unwrap_or-j c =
+    let s = kind-some _ _ c.in-Some.ensures in
+    let slot = c.attribute_slot.ensures in
+    let n = sym (found-below c.attribute_slot.result _ _ slot.found slot.within) ∙ c.if-is_none.ensures in
+    let at = c.unwrap_or.ensures ∙ ap (λ (n : ℕ). unwrap_or c.stands_at.result n) c.attributes_of.ensures ∙ c.stands_at.ensures.found in
+    let p = ap (λ (n : ℕ). eqb n c.args.j) (sym at) ∙ ne_eqb c.unwrap_or.result c.args.j c.if-unwrap_or-j.true in
+    simp (← c.attribute_of-k.ensures, s, n, p)
 
 pub returns : goal.returns
 unfolding attribute_fits
-returns c = simp (attributes-count, ← c.kind_fits.ensures, ← c.attribute_kind.ensures, ← c.place_of.ensures, eq-eqb _ _ c.if-stands_at-j.false, ← c.stands_at.ensures, lt-ltb _ _ c.if-attribute_slot-ge-COLUMNS.false, ← c.attribute_slot.ensures, lt-ltb _ _ c.if-k-ge-NONE.false, ← c.attribute_of-k.ensures)
+returns c =
+    let s = kind-some _ _ c.in-Some.ensures in
+    let slot = c.attribute_slot.ensures in
+    let n = sym (found-below c.attribute_slot.result _ _ slot.found slot.within) ∙ c.if-is_none.ensures in
+    let at = c.unwrap_or.ensures ∙ ap (λ (n : ℕ). unwrap_or c.stands_at.result n) c.attributes_of.ensures ∙ c.stands_at.ensures.found in
+    let p = ap (λ (n : ℕ). eqb n c.args.j) (sym at) ∙ eq-eqb c.unwrap_or.result c.args.j c.if-unwrap_or-j.false in
+    simp (← c.attribute_of-k.ensures, s, n, p, ← c.in-Some.ensures, c.kind_fits.ensures, ← c.place_of.ensures)

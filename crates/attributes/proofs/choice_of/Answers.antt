@@ -1,11 +1,12 @@
-use Rattle.optable.proofs.TableLaw.{choices-count}
+use mathlib.Core.Path.{◌∙◌}
+use Rattle.optable.specs.Table.{choices}
 use Rattle.attributes.specs.Attributes.{choice_of}
 use Rattle.attributes.proofs.choice_of.Goals as goal
 
-pub returns-then-stands : goal.returns-then-stands
-unfolding choice_of
-returns-then-stands c = simp (← c.choice_at.ensures, ← c.name_of.ensures, c.if-stands.true, ← c.stands.ensures)
+pub returns-then-not-stands : goal.returns-then-not-stands
+unfolding choice_of choices
+returns-then-not-stands c = simp (c.if-not-stands.true, ← c.stands.ensures)
 
 pub returns : goal.returns
-unfolding choice_of
-returns c = simp (choices-count, c.if-stands.false, ← c.stands.ensures)
+unfolding choice_of choices
+returns c = c.unwrap_or.ensures ∙ c.choice_at.ensures.found ∙ simp (← c.name_of.ensures, c.if-not-stands.false, ← c.stands.ensures)

@@ -1,23 +1,21 @@
-use borrow.Author.Tests.{ne_eqb, eq-eqb}
-use Rattle.attributes.specs.Attributes.{kind_fits}
+use mathlib.Core.Path.{◌∙◌}
+use Rattle.attributes.proofs.KindLaw.{differs, dense-fits, direction-fits, type-fits, numbers-fit, number-fits}
 use Rattle.attributes.proofs.kind_fits.Goals as goal
 
-pub returns-then-form_at-kind : goal.returns-then-form_at-kind
-unfolding kind_fits
-returns-then-form_at-kind c = simp (ne_eqb _ _ c.if-form_at-kind.true, ← c.form_at.ensures)
+pub returns-then-ne : goal.returns-then-ne
+returns-then-ne c = differs _ _ _ _ c.form_at.ensures _ c.ne.ensures c.if-ne.true
 
-pub returns-then-kind-eq-DENSE : goal.returns-then-kind-eq-DENSE
-unfolding kind_fits
-returns-then-kind-eq-DENSE c = simp (← c.dense_value_fits.ensures, eq-eqb _ _ c.if-kind-eq-DENSE.true, eq-eqb _ _ c.if-form_at-kind.false, ← c.form_at.ensures)
+pub returns-in-Dense : goal.returns-in-Dense
+returns-in-Dense c = c.dense_value_fits.ensures ∙ dense-fits _ _ _ _ c.form_at.ensures _ c.ne.ensures c.if-ne.false c.in-Dense.is
 
-pub returns-then-kind-eq-DIRECTION : goal.returns-then-kind-eq-DIRECTION
-unfolding kind_fits
-returns-then-kind-eq-DIRECTION c = simp (← c.choice_fits.ensures, eq-eqb _ _ c.if-kind-eq-DIRECTION.true, ne_eqb _ _ c.if-kind-eq-DENSE.false, eq-eqb _ _ c.if-form_at-kind.false, ← c.form_at.ensures)
+pub returns-in-Direction : goal.returns-in-Direction
+returns-in-Direction c = c.choice_fits.ensures ∙ direction-fits _ _ _ _ c.form_at.ensures _ c.ne.ensures c.if-ne.false c.in-Direction.is
 
-pub returns-then-kind-eq-COMPARE_TYPE : goal.returns-then-kind-eq-COMPARE_TYPE
-unfolding kind_fits
-returns-then-kind-eq-COMPARE_TYPE c = simp (← c.choice_fits-then-kind-eq-COMPARE_TYPE.ensures, eq-eqb _ _ c.if-kind-eq-COMPARE_TYPE.true, ne_eqb _ _ c.if-kind-eq-DIRECTION.false, ne_eqb _ _ c.if-kind-eq-DENSE.false, eq-eqb _ _ c.if-form_at-kind.false, ← c.form_at.ensures)
+pub returns-in-CompareType : goal.returns-in-CompareType
+returns-in-CompareType c = c.choice_fits-in-CompareType.ensures ∙ type-fits _ _ _ _ c.form_at.ensures _ c.ne.ensures c.if-ne.false c.in-CompareType.is
 
-pub returns : goal.returns
-unfolding kind_fits
-returns c = simp (ne_eqb _ _ c.if-kind-eq-COMPARE_TYPE.false, ne_eqb _ _ c.if-kind-eq-DIRECTION.false, ne_eqb _ _ c.if-kind-eq-DENSE.false, eq-eqb _ _ c.if-form_at-kind.false, ← c.form_at.ensures)
+pub returns-in-Numbers : goal.returns-in-Numbers
+returns-in-Numbers c = numbers-fit _ _ _ _ c.form_at.ensures _ c.ne.ensures c.if-ne.false c.in-Numbers.is
+
+pub returns-in-Number : goal.returns-in-Number
+returns-in-Number c = number-fits _ _ _ _ c.form_at.ensures _ c.ne.ensures c.if-ne.false c.in-Number.is

@@ -1,6 +1,8 @@
+use mathlib.Core.Path.{◌∙◌}
 use Rattle.attributes.specs.Attributes.{stands}
+use Rattle.attributes.proofs.AttributesLaw.{found-below}
 use Rattle.attributes.proofs.stands.Goals as goal
 
 pub returns : goal.returns
 unfolding stands
-returns c = simp (← c.attributes_of.ensures, ← c.stands_at.ensures)
+returns c = c.is_some.ensures ∙ found-below c.stands_at.result _ _ c.stands_at.ensures.found c.stands_at.ensures.within

@@ -3,10 +3,10 @@ use Rattle.dense.specs.Dense.{one_at}
 use Rattle.dense.specs.Filled.{after}
 use Rattle.dense.proofs.element.Goals as goal
 
-pub returns-then-v : goal.returns-then-v
+pub returns-in-Some : goal.returns-in-Some
 unfolding after one_at
-returns-then-v c = simp (lay-one, ← c.put_slot-p.ensures, c.if-v.true, ← c.literal-v.ensures, ← c.token_at-t.ensures)
+returns-in-Some c = simp (lay-one, ← c.put.ensures, ← c.token_at-t.ensures, ← c.in-Some.ensures)
 
-pub returns : goal.returns
+pub returns-in-None : goal.returns-in-None
 unfolding after one_at
-returns c = simp (lay-none, c.if-v.false, ← c.literal-v.ensures, ← c.token_at-t.ensures)
+returns-in-None c = simp (lay-none, ← c.token_at-t.ensures, ← c.in-None.ensures)

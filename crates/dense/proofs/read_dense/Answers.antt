@@ -1,11 +1,12 @@
-use Rattle.dense.proofs.ValueLaw.{lists_filled, literal-filled, literal-refused}
+use Rattle.std.proofs.Common.{refl}
+use Rattle.dense.proofs.ValueLaw.{is-ok, lists_filled, literal-filled, literal-refused}
 use Rattle.dense.proofs.read_dense.Goals as goal
 
 pub returns-then-t-eq91 : goal.returns-then-t-eq91
-returns-then-t-eq91 c = lists_filled _ c.args.shape _ _ c.token_at-t.ensures c.if-t-eq91.true _ c.args.out.now c.lists-r.ensures c.requires.1
+returns-then-t-eq91 c = rw (c.is_ok.ensures.value, is-ok) (lists_filled _ c.args.shape _ _ c.token_at-t.ensures c.if-t-eq91.true _ c.args.out.now c.lists.ensures c.requires.1)
 
-pub returns-then-v : goal.returns-then-v
-returns-then-v c = literal-filled _ c.args.shape _ _ c.token_at-t.ensures c.if-t-eq91.false c.literal-v.ensures _ c.args.out.now c.if-v.true c.fill.ensures c.requires.1
+pub returns-in-Some : goal.returns-in-Some
+returns-in-Some c = literal-filled _ c.args.shape _ _ c.token_at-t.ensures c.if-t-eq91.false c.in-Some.ensures _ c.args.out.now refl (c.fill.ensures.after (λ y e. e)) c.requires.1
 
-pub returns : goal.returns
-returns c = literal-refused _ c.args.shape _ _ c.token_at-t.ensures c.if-t-eq91.false c.literal-v.ensures _ c.if-v.false
+pub returns-in-None : goal.returns-in-None
+returns-in-None c = literal-refused _ c.args.shape _ _ c.token_at-t.ensures c.if-t-eq91.false c.in-None.ensures _ refl

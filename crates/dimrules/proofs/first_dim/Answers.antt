@@ -10,7 +10,7 @@ loop-d-init c = (omega arith, reach-none c.args.count (dim_test c.args.t c.args.
 pub returns-then-not-dim_test : goal.returns-then-not-dim_test
 returns-then-not-dim_test c =
     let s = c in
-    reach_here s.args.count (dim_test s.args.t s.args.s) c.loop-d.d c.loop-d.invariant.1 (omega arith) (sym c.dim_test.ensures ∙ c.if-not-dim_test.true)
+    record { place = reach_here s.args.count (dim_test s.args.t s.args.s) c.loop-d.d c.loop-d.invariant.1 (omega arith) (sym c.dim_test.ensures ∙ c.if-not-dim_test.true); within = omega arith }
 
 pub loop-d-preserved : goal.loop-d-preserved
 loop-d-preserved c =
@@ -20,4 +20,4 @@ loop-d-preserved c =
 pub returns : goal.returns
 returns c =
     let s = c in
-    reach-end s.args.count (dim_test s.args.t s.args.s) c.loop-d.d c.loop-d.invariant.1 (omega arith) (omega arith)
+    record { place = reach-end s.args.count (dim_test s.args.t s.args.s) c.loop-d.d c.loop-d.invariant.1 (omega arith) (omega arith); within = tt }

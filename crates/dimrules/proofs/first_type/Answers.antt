@@ -10,7 +10,7 @@ loop-j-init c = (omega arith, reach-none c.args.n (operand_test c.args.t c.args.
 pub returns-then-not-type_test : goal.returns-then-not-type_test
 returns-then-not-type_test c =
     let s = c in
-    reach_here s.args.n (operand_test s.args.t s.args.k s.args.x s.args.types s.args.from) c.loop-j.j c.loop-j.invariant.1 (omega arith) (sym c.type_test.ensures ∙ c.if-not-type_test.true)
+    record { place = reach_here s.args.n (operand_test s.args.t s.args.k s.args.x s.args.types s.args.from) c.loop-j.j c.loop-j.invariant.1 (omega arith) (sym c.type_test.ensures ∙ c.if-not-type_test.true); within = omega arith }
 
 pub loop-j-preserved : goal.loop-j-preserved
 loop-j-preserved c =
@@ -20,4 +20,4 @@ loop-j-preserved c =
 pub returns : goal.returns
 returns c =
     let s = c in
-    reach-end s.args.n (operand_test s.args.t s.args.k s.args.x s.args.types s.args.from) c.loop-j.j c.loop-j.invariant.1 (omega arith) (omega arith)
+    record { place = reach-end s.args.n (operand_test s.args.t s.args.k s.args.x s.args.types s.args.from) c.loop-j.j c.loop-j.invariant.1 (omega arith) (omega arith); within = tt }

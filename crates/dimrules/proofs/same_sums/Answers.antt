@@ -2,7 +2,7 @@ use Rattle.dimrules.proofs.WholeLaw.{halves, low-bound, high-bound, product-boun
 use native.Mathlib.Nat.{div-add-mod'}
 use mathlib.Core.Bool.{◌&&◌}
 use lib.Dec.{eqb}
-use mathlib.Core.Path.{◌≡◌}
+use mathlib.Core.Path.{◌≡◌, ◌∙◌}
 use Prim.Native.Nat.{ℕ, ◌*◌, ◌/◌, ◌%◌, ◌+◌, ◌≤◌}
 use native.Mathlib.Omega.{arith}
 use borrow.Author.Tests.{eq-eqb, ne_eqb}
@@ -76,4 +76,4 @@ returns-then-t-s c =
 pub returns-else-t-s : goal.returns-else-t-s
 returns-else-t-s c =
     let a = c.args in
-    rw (ne_eqb _ _ c.if-t-s.false) at (equal a.n a.a a.k a.i a.b a.m a.p a.q)
+    ne_eqb _ _ c.if-t-s.false ∙ rw (ne_eqb _ _ c.if-t-s.false) at (equal a.n a.a a.k a.i a.b a.m a.p a.q)

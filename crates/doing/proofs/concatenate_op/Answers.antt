@@ -8,9 +8,6 @@ concatenate-requires c =
     let h = concatenate-lent a.o a.places a.slots.now e.requires.0 c.shapes_of.ensures e.requires.1 in
     (e.requires.0.shaped.result.sized, e.requires.2, h.0, h.1)
 
-pub shape_of-out : goal.shape_of-out
-shape_of-out c = c.out-1.given
-
 pub returns : goal.returns
 returns c =
     let e = c in

@@ -8,9 +8,6 @@ read_dense-requires c =
     let e = c in
     (e.requires.0.shaped.value.sized.rank, constant-ready e.args.o e.requires.0 e.args.out.now e.requires.2)
 
-pub shape_of-out : goal.shape_of-out
-shape_of-out c = c.out-1.given
-
 pub returns : goal.returns
 returns c =
     let e = c in

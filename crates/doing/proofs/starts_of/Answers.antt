@@ -1,4 +1,3 @@
-use Prim.Native.Nat.{◌-◌}
 use Rattle.elementwise.proofs.FillLaw.{done_none, done_next, done_all}
 use borrow.Author.Rules.{rules}
 use Rattle.doing.proofs.starts_of.Goals as goal

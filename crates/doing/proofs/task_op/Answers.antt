@@ -19,9 +19,6 @@ fill-requires c =
     task-ready a.o a.places a.slots.now a.kind e.requires.0 e.requires.1 d.task_of.ensures d.operand-x.ensures
     d.operand-y.ensures d.operand-z.ensures e.requires.2 a.out.now e.requires.3
 
-pub shape_of-out : goal.shape_of-out
-shape_of-out c = c.out-1.given
-
 pub returns : goal.returns
 returns c =
     let d = c in

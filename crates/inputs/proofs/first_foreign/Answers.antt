@@ -1,5 +1,5 @@
-use Prim.Native.Nat.{◌-◌}
 use mathlib.Core.Path.{sym, ◌∙◌}
+use Prim.Native.Nat.{◌<◌}
 use native.Mathlib.Omega.{arith}
 use Rattle.dimrules.proofs.CountLaw.{reach-none, reach-next, reach_here, reach-end}
 use Rattle.inputs.specs.Inputs.{input_slots, slot_fits, first_foreign}
@@ -15,9 +15,10 @@ pub returns-then-not-slot_fits : goal.returns-then-not-slot_fits
 unfolding first_foreign
 returns-then-not-slot_fits c =
     let s = c in
-    reach_here (input_slots s.args.vs) (slot_fits s.args.vs s.args.inputs.now) c.loop-s.s
-    c.loop-s.invariant.1 (rw (← s.requires.2) c.loop-s-test.true)
-    (sym c.slot_fits.ensures ∙ c.if-not-slot_fits.true)
+    let l : c.loop-s.s < input_slots s.args.vs = rw (← s.requires.2) c.loop-s-test.true in record {
+      lowest = reach_here (input_slots s.args.vs) (slot_fits s.args.vs s.args.inputs.now) c.loop-s.s c.loop-s.invariant.1 l (sym c.slot_fits.ensures ∙ c.if-not-slot_fits.true);
+      within = l;
+    }
 
 pub loop-s-preserved : goal.loop-s-preserved
 loop-s-preserved c =
@@ -32,5 +33,7 @@ pub returns : goal.returns
 unfolding first_foreign
 returns c =
     let s = c in
-    s.requires.2 ∙ reach-end (input_slots s.args.vs) (slot_fits s.args.vs s.args.inputs.now) c.loop-s.s c.loop-s.invariant.1
-    (rw (← s.requires.2) c.loop-s-test.false) (rw (← s.requires.2) c.loop-s.invariant.0)
+    record {
+      lowest = reach-end (input_slots s.args.vs) (slot_fits s.args.vs s.args.inputs.now) c.loop-s.s c.loop-s.invariant.1 (rw (← s.requires.2) c.loop-s-test.false) (rw (← s.requires.2) c.loop-s.invariant.0);
+      within = tt;
+    }

@@ -1,4 +1,3 @@
-use Prim.Native.Nat.{◌-◌}
 use native.Mathlib.Omega.{arith}
 use Rattle.inputs.proofs.InputsLaw.{past-none, past-here, past_next, past_end}
 use Rattle.inputs.proofs.input_of.Goals as goal

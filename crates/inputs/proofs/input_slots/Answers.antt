@@ -7,4 +7,4 @@ pub returns : goal.returns
 unfolding input_slots
 returns c =
     let vs = c.args.vs in
-    offset_read vs c.offsets_of-offsets.result c.offsets_of-offsets.ensures vs.inputs (omega (arith, c.requires.1))
+    offset_read vs c.offsets_of.result c.offsets_of.ensures vs.inputs (omega (arith, c.requires.1))

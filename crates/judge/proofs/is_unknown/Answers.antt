@@ -1,28 +1,31 @@
 use borrow.Author.Tests.{eq-eqb, ne_eqb}
 use Rattle.judge.specs.Judge.{unknown}
-use Rattle.judge.proofs.NameLaw.{ops-count, attributes-count, choice-kinds-count, choices-count}
+use Rattle.judge.proofs.NameLaw.{ops_alike, attributes_alike, choice_kinds_alike, choices_alike, lacks}
 use Rattle.judge.proofs.is_unknown.Goals as goal
 
 pub returns-then-is_op : goal.returns-then-is_op
 unfolding unknown
-returns-then-is_op c = simp (← c.is_op.ensures, c.if-is_op.true, ← c.find_op.ensures, ops-count)
+returns-then-is_op c =
+    let f = c.find_op in
+    simp (← c.is_op.ensures, c.if-is_op.true) (lacks f.result _ _ _ _ c.is_none.ensures ops_alike f.ensures.found f.ensures.within)
 
-pub returns-then-is_type : goal.returns-then-is_type
+pub returns-in-19 : goal.returns-in-19
 unfolding unknown
-returns-then-is_type c = simp (← c.is_op.ensures, c.if-is_op.false, ← c.is_type.ensures, c.if-is_type.true, ← c.type_at-x.ensures)
+returns-in-19 c =
+    let f = c.find_attribute in
+    simp (← c.is_op.ensures, c.if-is_op.false, ← c.is_type.ensures, c.if-is_type.false)
+    (rw c.in-19.is (lacks f.result _ _ _ _ c.is_none-in-19.ensures attributes_alike f.ensures.found f.ensures.within))
 
-pub returns-then-role-eq-ATTRIBUTE_NAME : goal.returns-then-role-eq-ATTRIBUTE_NAME
+pub returns-in-22 : goal.returns-in-22
 unfolding unknown
-returns-then-role-eq-ATTRIBUTE_NAME c = simp (← c.is_op.ensures, c.if-is_op.false, ← c.is_type.ensures, c.if-is_type.false, eq-eqb _ _ c.if-role-eq-ATTRIBUTE_NAME.true, ← c.find_attribute.ensures, attributes-count)
+returns-in-22 c =
+    let f = c.find_choice_kind in
+    simp (← c.is_op.ensures, c.if-is_op.false, ← c.is_type.ensures, c.if-is_type.false)
+    (rw c.in-22.is (lacks f.result _ _ _ _ c.is_none-in-22.ensures choice_kinds_alike f.ensures.found f.ensures.within))
 
-pub returns-then-role-eq-CHOICE_KIND : goal.returns-then-role-eq-CHOICE_KIND
+pub returns-in-23 : goal.returns-in-23
 unfolding unknown
-returns-then-role-eq-CHOICE_KIND c = simp (← c.is_op.ensures, c.if-is_op.false, ← c.is_type.ensures, c.if-is_type.false, ne_eqb _ _ c.if-role-eq-ATTRIBUTE_NAME.false, eq-eqb _ _ c.if-role-eq-CHOICE_KIND.true, ← c.find_choice_kind.ensures, choice-kinds-count)
-
-pub returns-then-role-eq-CHOICE : goal.returns-then-role-eq-CHOICE
-unfolding unknown
-returns-then-role-eq-CHOICE c = simp (← c.is_op.ensures, c.if-is_op.false, ← c.is_type.ensures, c.if-is_type.false, ne_eqb _ _ c.if-role-eq-ATTRIBUTE_NAME.false, ne_eqb _ _ c.if-role-eq-CHOICE_KIND.false, eq-eqb _ _ c.if-role-eq-CHOICE.true, ← c.find_choice.ensures, choices-count)
-
-pub returns : goal.returns
-unfolding unknown
-returns c = simp (← c.is_op.ensures, c.if-is_op.false, ← c.is_type.ensures, c.if-is_type.false, ne_eqb _ _ c.if-role-eq-ATTRIBUTE_NAME.false, ne_eqb _ _ c.if-role-eq-CHOICE_KIND.false, ne_eqb _ _ c.if-role-eq-CHOICE.false)
+returns-in-23 c =
+    let f = c.find_choice in
+    simp (← c.is_op.ensures, c.if-is_op.false, ← c.is_type.ensures, c.if-is_type.false)
+    (rw c.in-23.is (lacks f.result _ _ _ _ c.is_none-in-23.ensures choices_alike f.ensures.found f.ensures.within))

@@ -15,8 +15,8 @@ use Rattle.maps.proofs.adjusted_starts.Goals as goal
 pub loop-d-init : goal.loop-d-init
 loop-d-init c = (omega arith, refl)
 
-pub overflow_sub-large : goal.overflow_sub-large
-overflow_sub-large c =
+pub overflow_sub-from : goal.overflow_sub-from
+overflow_sub-from c =
     let ranked_ : length (dims_of c.args.from) ≡ c.args.from.rank = (let six : length c.args.from.dims ≡ 6 = search rules in
     length-take-le c.args.from.rank c.args.from.dims (omega arith)) in
     let large-at_ : (d : ℕ) → d < c.args.from.rank → at (dims_of c.args.from) d ≡ at c.args.from.dims d = (λ d h. get_or-take c.args.from.rank c.args.from.dims d 0 h) in

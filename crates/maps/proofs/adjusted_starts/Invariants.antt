@@ -1,4 +1,4 @@
-use Prim.Native.Nat.{◌≤◌, ◌-◌}
+use Prim.Native.Nat.{◌≤◌}
 use mathlib.Core.Path.{◌≡◌}
 use mathlib.Core.List.{◌++◌}
 use lib.ListN.{drop, replicate}
@@ -7,7 +7,4 @@ use Rattle.maps.specs.Formulas.{adjusted_start}
 use Rattle.maps.proofs.adjusted_starts.Given as goal
 
 abbrev pub invariant-loop-d : goal.invariant-loop-d
-invariant-loop-d l = (l.d ≤ l.rank) × (l.adjusted ≡ tab l.d (adjusted_start l.t l.starts l.large l.small) ++ drop l.d (replicate 6 0))
-
-abbrev pub decreases-loop-d : goal.decreases-loop-d
-decreases-loop-d l = l.rank - l.d
+invariant-loop-d l = (l.d ≤ l.from.rank) × (l.adjusted ≡ tab l.d (adjusted_start l.t l.starts l.from.dims l.to.dims) ++ drop l.d (replicate 6 0))

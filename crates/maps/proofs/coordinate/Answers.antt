@@ -30,7 +30,7 @@ pad_coordinate-requires c =
 pub returns-in-Transpose : goal.returns-in-Transpose
 returns-in-Transpose c =
     let by_kind_ : (k : Kind) → c.args.m.kind ≡ k → coord_by k c.args.m.a c.args.m.b c.args.m.count c.args.n (at c.args.index) c.args.d ≡ coord_by c.args.m.kind c.args.m.a c.args.m.b c.args.m.count c.args.n (at c.args.index) c.args.d = (λ k e. ap (λ (j : Kind). coord_by j c.args.m.a c.args.m.b c.args.m.count c.args.n (at c.args.index) c.args.d) (sym e)) in
-    c.at_or_zero.ensures ∙ ap (at c.args.index) c.place_in.ensures ∙ by_kind_ _ c.in-Transpose.is
+    c.at_or_zero.ensures ∙ ap (at c.args.index) (c.unwrap_or.ensures ∙ c.place_in.ensures.place) ∙ by_kind_ _ c.in-Transpose.is
 
 pub returns-in-Slice : goal.returns-in-Slice
 returns-in-Slice c =
@@ -50,4 +50,4 @@ returns-in-Broadcast c =
 pub returns-in-Pad : goal.returns-in-Pad
 returns-in-Pad c =
     let by_kind_ : (k : Kind) → c.args.m.kind ≡ k → coord_by k c.args.m.a c.args.m.b c.args.m.count c.args.n (at c.args.index) c.args.d ≡ coord_by c.args.m.kind c.args.m.a c.args.m.b c.args.m.count c.args.n (at c.args.index) c.args.d = (λ k e. ap (λ (j : Kind). coord_by j c.args.m.a c.args.m.b c.args.m.count c.args.n (at c.args.index) c.args.d) (sym e)) in
-    c.pad_coordinate.ensures ∙ by_kind_ _ c.in-Pad.is
+    c.unwrap_or-in-Pad.ensures ∙ c.pad_coordinate.ensures c.args.n ∙ by_kind_ _ c.in-Pad.is

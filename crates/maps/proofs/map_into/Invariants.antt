@@ -1,7 +1,7 @@
-use Prim.Native.Nat.{◌≤◌, ◌-◌}
+use Prim.Native.Nat.{◌≤◌}
 use mathlib.Core.Path.{◌≡◌}
 use mathlib.Core.List.{◌++◌}
-use lib.ListN.{drop}
+use lib.ListN.{drop, length}
 use Rattle.lists.specs.Lists.{tab}
 use Rattle.shape.specs.Index.{unravel}
 use Rattle.shape.specs.Dims.{dims_of}
@@ -9,7 +9,4 @@ use Rattle.maps.specs.Kinds.{mapped_at}
 use Rattle.maps.proofs.map_into.Given as goal
 
 abbrev pub invariant-loop-k : goal.invariant-loop-k
-invariant-loop-k l = (l.k ≤ l.slots) × (l.out ≡ tab l.k (λ j. mapped_at l.m (dims_of l.from) l.x l.z (unravel (dims_of l.to) j)) ++ drop l.k l.initial.out)
-
-abbrev pub decreases-loop-k : goal.decreases-loop-k
-decreases-loop-k l = l.slots - l.k
+invariant-loop-k l = (l.k ≤ length l.initial.out) × (l.out ≡ tab l.k (λ j. mapped_at l.m (dims_of l.from) l.x l.z (unravel (dims_of l.to) j)) ++ drop l.k l.initial.out)

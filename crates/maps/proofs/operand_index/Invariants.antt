@@ -1,4 +1,4 @@
-use Prim.Native.Nat.{◌≤◌, ◌-◌}
+use Prim.Native.Nat.{◌≤◌}
 use mathlib.Core.Path.{◌≡◌}
 use mathlib.Core.List.{◌++◌}
 use lib.ListN.{drop, get_or, replicate}
@@ -8,7 +8,4 @@ use Rattle.maps.specs.Kinds.{coord_of}
 use Rattle.maps.proofs.operand_index.Given as goal
 
 abbrev pub invariant-loop-d : goal.invariant-loop-d
-invariant-loop-d l = (l.d ≤ l.rank) × (l.operand ≡ tab l.d (λ j. coord_of l.m (get_or l.dims j 0) (at l.index) j) ++ drop l.d (replicate 6 0))
-
-abbrev pub decreases-loop-d : goal.decreases-loop-d
-decreases-loop-d l = l.rank - l.d
+invariant-loop-d l = (l.d ≤ l.from.rank) × (l.operand ≡ tab l.d (λ j. coord_of l.m (get_or l.from.dims j 0) (at l.index) j) ++ drop l.d (replicate 6 0))

@@ -10,7 +10,7 @@ loop-j-init c = (omega arith, reach-none c.args.o.arity (taken_at c.args.row c.a
 pub returns-then-not-taken_at : goal.returns-then-not-taken_at
 returns-then-not-taken_at c =
     let s = c in
-    reach_here s.args.o.arity (taken_at s.args.row s.args.o) c.loop-j.j c.loop-j.invariant.1 (omega arith) (sym c.taken_at.ensures ∙ c.if-not-taken_at.true)
+    record { place = reach_here s.args.o.arity (taken_at s.args.row s.args.o) c.loop-j.j c.loop-j.invariant.1 (omega arith) (sym c.taken_at.ensures ∙ c.if-not-taken_at.true); within = omega arith }
 
 pub loop-j-preserved : goal.loop-j-preserved
 loop-j-preserved c =
@@ -20,4 +20,4 @@ loop-j-preserved c =
 pub returns : goal.returns
 returns c =
     let s = c in
-    reach-end s.args.o.arity (taken_at s.args.row s.args.o) c.loop-j.j c.loop-j.invariant.1 (omega arith) (omega arith)
+    record { place = reach-end s.args.o.arity (taken_at s.args.row s.args.o) c.loop-j.j c.loop-j.invariant.1 (omega arith) (omega arith); within = tt }

@@ -19,7 +19,7 @@ returns-then-not-operand_typed c =
     let v = c.loop-j.invariant in
     let a = c.args in
     let h = c.loop-j-test.true in
-    reach_here (arity_of a.op) (operand_typed a.text.now a.op a.values.list a.n) c.loop-j.j v.2 (rw (← v.0) h) (sym c.operand_typed.ensures ∙ c.if-not-operand_typed.true)
+    record { place = reach_here (arity_of a.op) (operand_typed a.text.now a.op a.values.list a.n) c.loop-j.j v.2 (rw (← v.0) h) (sym c.operand_typed.ensures ∙ c.if-not-operand_typed.true); within = omega arith }
 
 pub loop-j-preserved : goal.loop-j-preserved
 loop-j-preserved c =
@@ -32,4 +32,4 @@ pub returns : goal.returns
 returns c =
     let v = c.loop-j.invariant in
     let a = c.args in
-    v.0 ∙ reach-end (arity_of a.op) (operand_typed a.text.now a.op a.values.list a.n) c.loop-j.j v.2 (rw (← v.0) c.loop-j-test.false) (rw (← v.0) v.1)
+    record { place = reach-end (arity_of a.op) (operand_typed a.text.now a.op a.values.list a.n) c.loop-j.j v.2 (rw (← v.0) c.loop-j-test.false) (rw (← v.0) v.1); within = tt }

@@ -1,32 +1,19 @@
-use mathlib.Core.Path.{refl}
-use Rattle.values.specs.Values.{no_value}
-use Rattle.operands.proofs.OperandsLaw.{name-any}
-use Prim.Native.Nat.{◌-◌}
-use mathlib.Core.Path.{sym, ◌∙◌}
+use mathlib.Core.Path.{◌≡◌}
 use native.Mathlib.Omega.{arith}
-use Rattle.operands.proofs.OperandsLaw.{seek-none, seek-next, seek-here, seek-end}
+use lib.ListN.{length, take}
+use borrow.Author.Rules.{rules}
+use borrow.Author.Tests.{tests}
+use Rattle.std.proofs.lemmas.Iterator.{YieldsList-from_slice}
+use Rattle.std.proofs.lemmas.Iterator.Search.{position_from_yields_List}
+use Rattle.std.specs.List.{position}
+use Rattle.scope.specs.Scope.{same_at}
+use Rattle.operands.proofs.OperandsLaw.{found}
 use Rattle.operands.proofs.value_named.Goals as goal
 
-pub loop-i-init : goal.loop-i-init
-loop-i-init c = let a = c.args in (omega arith, seek-none a.text.now a.values.list a.n a.a)
-
-pub returns-then-same_at : goal.returns-then-same_at
-returns-then-same_at c =
+pub returns-clause-place : goal.returns-clause-place
+returns-clause-place c =
     let a = c.args in
-    let i = c.loop-i.i in
-    seek-here a.text.now a.values.list a.n a.a i c.loop-i.invariant.1 (omega arith)
-    (rw (name-any a.values.list i no_value _ refl) (sym c.same_at.ensures ∙ c.if-same_at.true))
-
-pub loop-i-preserved : goal.loop-i-preserved
-loop-i-preserved c =
-    let a = c.args in
-    let i = c.loop-i.i in (
-      omega arith,
-      seek-next a.text.now a.values.list a.n a.a i c.loop-i.invariant.1 (omega arith)
-          (rw (name-any a.values.list i no_value _ refl) (sym c.same_at.ensures ∙ c.if-same_at.false)),
-    )
-
-pub returns : goal.returns
-returns c =
-    let a = c.args in
-    seek-end a.text.now a.values.list a.n a.a c.loop-i.i c.loop-i.invariant.1 (omega arith) (omega arith)
+    let long : length a.values.list ≡ 264 = search rules in
+    let e : c.position.result ≡ position (λ v. same_at a.text.now v.name a.a) (take a.n a.values.list) =
+    position_from_yields_List (λ v. same_at a.text.now v.name a.a) _ _ _ c.position.ensures.ran (YieldsList-from_slice _ c.iter.ensures.rest) (λ x b q k. search (rules, tests)) in
+    found a.text.now a.values.list a.n a.a (omega arith) c.position.result e

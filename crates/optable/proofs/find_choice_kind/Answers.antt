@@ -7,6 +7,10 @@ use Rattle.optable.proofs.find_choice_kind.Goals as goal
 pub find-requires : goal.find-requires
 find-requires c = search (rules, names-length)
 
-pub returns : goal.returns
+pub returns-clause-found : goal.returns-clause-found
 unfolding find_choice_kind names op_names attribute_names choice_kind_names choice_names ops attributes choice_kinds choices
-returns c = c.find.ensures
+returns-clause-found c = c.find.ensures.found
+
+pub returns-clause-within : goal.returns-clause-within
+unfolding ops attributes choice_kinds choices
+returns-clause-within c = c.find.ensures.within

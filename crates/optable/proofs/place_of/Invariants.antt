@@ -1,5 +1,5 @@
 use mathlib.Core.Path.{◌≡◌}
-use Prim.Native.Nat.{◌+◌, ◌≤◌, ◌-◌}
+use Prim.Native.Nat.{◌+◌, ◌≤◌}
 use lib.ListN.{take, drop}
 use Rattle.optable.specs.Table.{names}
 use Rattle.optable.specs.Find.{name_place}
@@ -7,6 +7,3 @@ use Rattle.optable.proofs.place_of.Given as goal
 
 abbrev pub invariant-loop-k : goal.invariant-loop-k
 invariant-loop-k l = (l.k ≤ l.count) × (l.k + name_place (drop l.k (take l.count (drop l.first names))) l.bytes ≡ name_place (take l.count (drop l.first names)) l.bytes)
-
-abbrev pub decreases-loop-k : goal.decreases-loop-k
-decreases-loop-k l = l.count - l.k

@@ -1,46 +1,37 @@
-use Prim.Native.Nat.{ℕ, ◌-◌}
-use mathlib.Core.Path.{◌≡◌, refl, sym, ap, ◌∙◌}
+use mathlib.Core.Path.{◌≡◌, sym, ap, ◌∙◌}
+use Prim.Native.Nat.{ℕ, suc, ◌-◌}
 use native.Mathlib.Omega.{arith}
 use native.Mathlib.Numerals.{add-one}
 use borrow.Author.Rules.{rules}
-use Rattle.judge.specs.declared.Refusal.{Refusal}
-use Rattle.opwise.specs.Opwise.{op_refusal, ops_from}
+use Rattle.judge.specs.Refusals.{Refusal}
+use Rattle.judge.proofs.RefusedLaw.{refused-number}
+use Rattle.opwise.specs.Opwise.{ops_from}
+use Rattle.opwise.proofs.HandedLaw.{handed-on}
 use Rattle.opwise.proofs.OpwiseLaw.{refused, goes_on, none_left}
 use Rattle.opwise.proofs.first_refused.Goals as goal
 
-pub loop-left-init : goal.loop-left-init
-loop-left-init c = (refl, refl, omega arith, refl)
-
-pub op_refusal-r-requires : goal.op_refusal-r-requires
-op_refusal-r-requires c =
-    let l = c.loop-left in
-    let s = c in
-    let e = l.invariant.2 in
-    let f = s.requires.0 in
-    let g = s.requires.1 in
-    (omega arith, omega arith, record { few = s.requires.2.few; stacked = l.invariant.0 ∙ s.requires.2.stacked; named = l.invariant.1 ∙ s.requires.2.named })
-
-pub returns-then-r-ne0 : goal.returns-then-r-ne0
-returns-then-r-ne0 c =
-    let l = c.loop-left in
+pub returns-in_err-op_refusal : goal.returns-in_err-op_refusal
+returns-in_err-op_refusal c =
+    let l = c.loop-k in
     let a = c.args in
-    let r = c.op_refusal-r in
-    let h = c.loop-left-test.true in
-    r.ensures ∙ sym (refused a.text.now a.p a.vs l.left l.k (l.left - 1) (omega arith) (λ q. c.if-r-ne0.true (ap (λ (x : Refusal). x.number) r.ensures ∙ q))) ∙ l.invariant.3
+    let e = c.in_err-op_refusal.field-0.0 in
+    let s = c.in_err-op_refusal.ensures in
+    let h = c.loop-k-test.true in
+    rw (handed-on c.from_residual.result e c.from_residual.ensures.1)
+    (s ∙ sym (refused a.text.now a.p a.vs (a.p.count - l.k) l.k (a.p.count - l.k - 1) (omega arith) (λ q. refused-number e (ap (λ (x : Refusal). x.number) s ∙ q))) ∙ l.invariant.2)
 
-pub loop-left-preserved : goal.loop-left-preserved
-loop-left-preserved c =
-    let l = c.loop-left in
+pub loop-k-preserved : goal.loop-k-preserved
+loop-k-preserved c =
+    let l = c.loop-k in
     let a = c.args in
-    let r = c.op_refusal-r in
-    let h = c.loop-left-test.true in
-    let e = l.invariant.2 in
-    let z : (op_refusal a.text.now a.p a.vs l.k).number ≡ 0 = ap (λ (x : Refusal). x.number) (sym r.ensures) ∙ c.if-r-ne0.false in
-    (search rules, search rules, omega arith, rw add-one (sym (goes_on a.text.now a.p a.vs l.left l.k (l.left - 1) (omega arith) z) ∙ l.invariant.3))
+    let s = c.in_ok-op_refusal.ensures in
+    let h = c.loop-k-test.true in
+    (search rules, search rules, rw add-one (sym (goes_on a.text.now a.p a.vs (a.p.count - l.k) l.k (a.p.count - suc l.k) (omega arith) (ap (λ (x : Refusal). x.number) (sym s))) ∙ l.invariant.2))
 
 pub returns : goal.returns
 returns c =
-    let l = c.loop-left in
+    let l = c.loop-k in
     let a = c.args in
-    let e : l.left ≡ 0 = omega arith in
-    sym (none_left a.text.now a.p a.vs l.k) ∙ sym (ap (λ (n : ℕ). ops_from a.text.now a.p a.vs n l.k) e) ∙ l.invariant.3
+    let h = c.loop-k-test.false in
+    let e : a.p.count - l.k ≡ 0 = omega arith in
+    sym (none_left a.text.now a.p a.vs l.k) ∙ sym (ap (λ (n : ℕ). ops_from a.text.now a.p a.vs n l.k) e) ∙ l.invariant.2

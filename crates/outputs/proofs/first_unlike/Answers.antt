@@ -20,7 +20,7 @@ returns-then-not-returned_at c =
     let v = c.loop-j.invariant in
     let a = c.args in
     let h = c.loop-j-test.true in
-    reach_here (arity_of a.op) (returned_at a.text.now a.op a.header) c.loop-j.j v.2 (rw (← v.0) h) (sym c.returned_at.ensures ∙ c.if-not-returned_at.true)
+    record { place = reach_here (arity_of a.op) (returned_at a.text.now a.op a.header) c.loop-j.j v.2 (rw (← v.0) h) (sym c.returned_at.ensures ∙ c.if-not-returned_at.true); within = omega arith }
 
 pub loop-j-preserved : goal.loop-j-preserved
 loop-j-preserved c =
@@ -33,4 +33,4 @@ pub returns : goal.returns
 returns c =
     let v = c.loop-j.invariant in
     let a = c.args in
-    v.0 ∙ reach-end (arity_of a.op) (returned_at a.text.now a.op a.header) c.loop-j.j v.2 (rw (← v.0) c.loop-j-test.false) (rw (← v.0) v.1)
+    record { place = reach-end (arity_of a.op) (returned_at a.text.now a.op a.header) c.loop-j.j v.2 (rw (← v.0) c.loop-j-test.false) (rw (← v.0) v.1); within = tt }

@@ -5,6 +5,6 @@ pub returns-then-typed_return : goal.returns-then-typed_return
 unfolding return_judged
 returns-then-typed_return c = simp (c.if-typed_return.true, ← c.typed_return.ensures)
 
-pub returns : goal.returns
+pub returns-else-typed_return : goal.returns-else-typed_return
 unfolding return_judged
-returns c = simp (c.if-typed_return.false, ← c.typed_return.ensures)
+returns-else-typed_return c = simp (c.if-typed_return.false, ← c.typed_return.ensures)

@@ -1,4 +1,4 @@
-use Prim.Native.Nat.{◌≤◌, ◌-◌}
+use Prim.Native.Nat.{◌≤◌}
 use mathlib.Core.Path.{◌≡◌}
 use lib.ListN.{take, drop}
 use Rattle.run.specs.Tree.{fold}
@@ -11,6 +11,3 @@ use Rattle.reduction.proofs.fold_row.Given as goal
 abbrev pub invariant-loop-q : goal.invariant-loop-q
 invariant-loop-q l =
     (l.q ≤ l.n) × (fold (body_of l.b l.t) l.value (drop l.q (row_over (take l.count l.dimensions) (dims_of l.from) l.x (dims_of l.inner) (at l.j))) ≡ fold (body_of l.b l.t) l.start (row_over (take l.count l.dimensions) (dims_of l.from) l.x (dims_of l.inner) (at l.j)))
-
-abbrev pub decreases-loop-q : goal.decreases-loop-q
-decreases-loop-q l = l.n - l.q

@@ -1,4 +1,4 @@
-use Prim.Native.Nat.{◌≤◌, ◌-◌}
+use Prim.Native.Nat.{◌≤◌}
 use mathlib.Core.Path.{◌≡◌}
 use mathlib.Core.List.{◌++◌}
 use lib.ListN.{take, drop, replicate}
@@ -11,6 +11,3 @@ use Rattle.reduction.proofs.insert_index.Given as goal
 abbrev pub invariant-loop-d : goal.invariant-loop-d
 invariant-loop-d l =
     (l.d ≤ l.rank) × (l.n ≤ l.d) × (l.n ≡ count_below (is_in (take l.count l.dimensions)) l.d) × (l.index ≡ tab l.d (inserted (take l.count l.dimensions) (at l.j) (at l.r)) ++ drop l.d (replicate 6 0))
-
-abbrev pub decreases-loop-d : goal.decreases-loop-d
-decreases-loop-d l = l.rank - l.d

@@ -11,13 +11,13 @@ use Rattle.operands.proofs.OperandsLaw.{arity-few}
 use Rattle.result_lines.proofs.ResultLaw.{read, few-slots, result-before, none-printed, room-left, one-printed, all-printed}
 use Rattle.result_lines.proofs.print_lines.Goals as goal
 
-pub offset_bounds-ops-ops_of : goal.offset_bounds-ops-ops_of
-offset_bounds-ops-ops_of c =
+pub offset_bounds-p-ops_of : goal.offset_bounds-p-ops_of
+offset_bounds-p-ops_of c =
     let last_ : c.ops_of.result ≤ 256 = (omega (arith, c.ops_of.ensures, ops-small c.args.p)) in
     search (rules, last_)
 
-pub bounds-ops-ops_of : goal.bounds-ops-ops_of
-bounds-ops-ops_of c =
+pub bounds-p-ops_of : goal.bounds-p-ops_of
+bounds-p-ops_of c =
     let last_ : c.ops_of.result ≤ 256 = (omega (arith, c.ops_of.ensures, ops-small c.args.p)) in
     search (rules, last_)
 

@@ -59,5 +59,5 @@ returns c =
     let a = s.args in
     let n = dense-small a.vs a.slots.now a.i s.requires.1 s.requires.0 in
     let v = dense-read a.vs a.slots.now a.i a.at _ _ (read_ _) s.requires.2 (counted_) in
-    c.put_byte.ensures
+    c.put.ensures
     ∙ line-end (dense_of a.vs a.slots.now a.i) a.from a.out.now _ n s.requires.4 (c.print_dense-p.ensures ∙ ap (λ (x : List ℕ). written x a.from a.out.now) v)

@@ -3,4 +3,4 @@ use Rattle.results.proofs.result_number.Goals as goal
 
 pub returns : goal.returns
 unfolding line_at
-returns c = simp (← c.value_named.ensures, ← c.place_of.ensures)
+returns c = simp (c.unwrap_or.ensures, c.value_named.ensures.place, ← c.place_of.ensures)

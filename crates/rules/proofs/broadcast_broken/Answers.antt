@@ -7,15 +7,6 @@ use Rattle.rule_laws.proofs.BroadcastLaw.{same-broadcast}
 use borrow.Author.Rules.{rules}
 use Rattle.rules.proofs.broadcast_broken.Goals as goal
 
-pub all_dims-c3-requires : goal.all_dims-c3-requires
-all_dims-c3-requires c = rw c.sides_of-s.ensures (record { sized = c.requires.0; few = c.requires.1 })
-
-pub all_dims-c4-requires : goal.all_dims-c4-requires
-all_dims-c4-requires c = rw c.sides_of-s.ensures (record { sized = c.requires.0; few = c.requires.1 })
-
-pub all_dims-c5-requires : goal.all_dims-c5-requires
-all_dims-c5-requires c = rw c.sides_of-s.ensures (record { sized = c.requires.0; few = c.requires.1 })
-
 pub returns : goal.returns
 unfolding broadcast_tests
 returns c =
@@ -23,4 +14,4 @@ returns c =
     let g = c.well_formed.1.0 in
     let six : length a.dimensions.list ≡ 6 = search rules in
     let few : a.dimensions.count ≤ length a.dimensions.list = omega (arith, six, c.requires.1) in
-    rw (same-broadcast a.x a.dimensions a.r few) (simp (c.first_broken.ensures, c.all_dims-c5.ensures, c.all_dims-c4.ensures, c.all_dims-c3.ensures, c.same_element-c1.ensures, c.sides_of-s.ensures, c.rank_of.ensures, c.rank_of-rank.ensures))
+    rw (same-broadcast a.x a.dimensions a.r few) (simp (c.first_broken.ensures, c.all_dims-c5.ensures, c.all_dims-c4.ensures, c.all_dims-c3.ensures, c.same_element-c1.ensures, c.sides_of-s.ensures))

@@ -6,4 +6,4 @@ pub returns : goal.returns
 unfolding iota_tests
 returns c =
     let a = c.args in
-    rw (same-iota a.dimension a.r) (simp (c.first_broken.ensures, c.below-c1.ensures, c.rank_of.ensures))
+    rw (same-iota a.dimension a.r) (simp (c.first_broken.ensures, c.below-c1.ensures))

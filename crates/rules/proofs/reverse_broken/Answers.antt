@@ -11,12 +11,6 @@ use Rattle.rule_laws.proofs.ReverseLaw.{same-reverse}
 use borrow.Author.Rules.{rules}
 use Rattle.rules.proofs.reverse_broken.Goals as goal
 
-pub all_dims-c2-requires : goal.all_dims-c2-requires
-all_dims-c2-requires c = rw c.sides_of-s.ensures (record { sized = c.requires.0; few = c.requires.1 })
-
-pub all_dims-c3-requires : goal.all_dims-c3-requires
-all_dims-c3-requires c = rw c.sides_of-s.ensures (record { sized = c.requires.0; few = c.requires.1 })
-
 pub returns : goal.returns
 unfolding reverse_tests
 returns c =
@@ -26,4 +20,4 @@ returns c =
     let few : a.dimensions.count ≤ length a.dimensions.list = omega (arith, six, c.requires.1) in
     let words : (d : ℕ) → d < a.dimensions.count → num a.dimensions d < 2 ^ 64 =
     λ d k. let h : Fits w64 (get_or a.dimensions.list d 0) = search rules in rw (get_or-take a.dimensions.count a.dimensions.list d 0 k) h.fits in
-    rw (same-reverse a.x a.dimensions a.r few words) (simp (c.first_broken.ensures, c.all_dims-c3.ensures, c.all_dims-c2.ensures, c.same_type-c1.ensures, c.sides_of-s.ensures, c.rank_of.ensures))
+    rw (same-reverse a.x a.dimensions a.r few words) (simp (c.first_broken.ensures, c.all_dims-c3.ensures, c.all_dims-c2.ensures, c.same_type-c1.ensures, c.sides_of-s.ensures))

@@ -1,11 +1,8 @@
-use Rattle.std.proofs.Common.{sym, ◌∙◌}
-use Rattle.scalar.specs.Ops.{compare_of}
+use Rattle.std.proofs.Common.{◌∙◌}
+use Rattle.scalar.specs.Ops.{holds, compare_of}
+use Rattle.scalar.proofs.Bytes.{byte-pick}
 use Rattle.scalar.proofs.compare.Goals as goal
 
-pub returns-then-compares : goal.returns-then-compares
+pub returns : goal.returns
 unfolding compare_of
-returns-then-compares c = simp (sym c.compares.ensures ∙ c.if-compares.true)
-
-pub returns-else-compares : goal.returns-else-compares
-unfolding compare_of
-returns-else-compares c = simp (sym c.compares.ensures ∙ c.if-compares.false)
+returns c = c.from.ensures ∙ rw c.compares.ensures (byte-pick (holds c.args.d c.args.t c.args.a c.args.b))

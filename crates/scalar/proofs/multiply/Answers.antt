@@ -7,9 +7,9 @@ pub returns-then-is_bool : goal.returns-then-is_bool
 unfolding multiply_of
 returns-then-is_bool c = simp (sym c.is_bool.ensures ∙ c.if-is_bool.true)
 
-pub returns : goal.returns
+pub returns-else-is_bool : goal.returns-else-is_bool
 unfolding multiply_of
-returns c =
+returns-else-is_bool c =
     let s = c in
     simp (sym c.is_bool.ensures ∙ c.if-is_bool.false)
-    (c.fit.ensures ∙ rw c.wrapping_mul.ensures (sym (product-slot s.args.t s.ranges.a.fits s.ranges.b.fits)))
+    (c.fit.ensures ∙ sym (product-slot s.args.t s.ranges.a.fits s.ranges.b.fits))

@@ -7,4 +7,4 @@ pub returns : goal.returns
 unfolding negate_of
 returns c =
     let s = c in
-    c.fit.ensures ∙ sym (negation-slot s.args.t c.wrapping_sub_u64.result s.ranges.a.fits c.wrapping_sub_u64.ensures.value)
+    c.fit.ensures ∙ sym (negation-slot s.args.t c.wrapping_neg.result s.ranges.a.fits c.wrapping_neg.ensures)

@@ -11,7 +11,7 @@ returns-then-b-width c =
     let s = c in
     c.fit.ensures ∙ rw c.mask.ensures (srl-in s.args.t s.ranges.a.fits (rw c.width.ensures at c.if-b-width.true))
 
-pub returns : goal.returns
-returns c =
+pub returns-else-b-width : goal.returns-else-b-width
+returns-else-b-width c =
     let s = c in
     srl-out s.args.t s.ranges.a.fits (rw c.width.ensures at c.if-b-width.false)

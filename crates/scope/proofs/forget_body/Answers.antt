@@ -1,5 +1,5 @@
-use mathlib.Core.Path.{refl, sym, ◌∙◌}
-use Prim.Native.Nat.{◌-◌}
+use mathlib.Core.Path.{◌≡◌, refl, sym, ◌∙◌}
+use lib.ListN.{length}
 use borrow.Author.Tests.{eq-eqb, ne_eqb}
 use Rattle.scope.proofs.ScopeLaw.{forget-next, forget-end}
 use native.Mathlib.Omega.{arith}
@@ -23,4 +23,7 @@ loop-i-preserved c =
 pub returns : goal.returns
 returns c =
     let l = c.loop-i in
-    record { left = sym (forget-end _ _ c.loop-i-test.false) ∙ l.invariant.0; room = l.invariant.1; within = l.invariant.2 }
+    let q = l.invariant.1 in
+    let w = l.invariant.2 in
+    let e : l.i ≡ length c.args.entries.now = omega arith in
+    record { left = rw (← e) (sym (forget-end c.args.entries.now l.i (omega arith)) ∙ l.invariant.0); room = omega arith; within = omega arith }

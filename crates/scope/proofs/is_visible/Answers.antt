@@ -1,5 +1,4 @@
 use mathlib.Core.Path.{refl, sym, ◌∙◌}
-use Prim.Native.Nat.{◌-◌}
 use Rattle.scope.proofs.ScopeLaw.{visible-next, visible-end}
 use Rattle.scope.proofs.is_visible.Goals as goal
 

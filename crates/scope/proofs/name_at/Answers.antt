@@ -8,8 +8,8 @@ overflow_sub-result c =
     let a = c.args in
     let x = token-after a.text.now a.a in
     let y = token-ordered a.text.now a.a in
-    rw c.token_at-t.ensures (omega arith)
+    rw c.token_at.ensures (omega arith)
 
 pub returns : goal.returns
 unfolding name_at
-returns c = simp (← c.token_at-t.ensures)
+returns c = simp (← c.token_at.ensures)

@@ -1,35 +1,24 @@
-use mathlib.Core.Path.{◌∙◌}
+use mathlib.Core.Path.{◌≡◌}
+use native.Mathlib.Omega.{arith}
+use borrow.Author.Rules.{rules}
+use Rattle.std.specs.Prelude.{Err}
 use Rattle.scope.specs.Scope.{placed, turned}
 use Rattle.scope.proofs.ScopeLaw.{rescope, goes_on, stops}
-use native.Mathlib.Omega.{arith}
 use Rattle.scope.proofs.turn.Goals as goal
 
-pub place_name-requires : goal.place_name-requires
-place_name-requires c =
-    let s = c.settle_names-s.ensures in
-    let r = s.room in
-    let p = c.requires in
-    let p0 = p.0 in
-    (omega arith, s.within, p.2)
-
-pub shape_of-entries-then-s-eq0 : goal.shape_of-entries-then-s-eq0
-shape_of-entries-then-s-eq0 c = c.place_name.ensures.size ∙ c.settle_names-s.ensures.size
-
-pub returns-then-s-eq0 : goal.returns-then-s-eq0
+pub returns-in_err-settled : goal.returns-in_err-settled
 unfolding turned
-returns-then-s-eq0 c = rescope (simp (← c.ends_op.ensures, c.if-ends_op.true)) (omega arith) (goes_on c.settle_names-s.ensures (placed _ _ _) c.if-s-eq0.true c.place_name.ensures)
-
-pub shape_of-entries-then-ends_op : goal.shape_of-entries-then-ends_op
-shape_of-entries-then-ends_op c = c.settle_names-s.ensures.size
+returns-in_err-settled c =
+    let a = c.args in
+    let e = c.in_err-settled in
+    let same : c.from_residual.result ≡ Err e.field-0.0 = search rules in
+    rw same (rescope (simp (← c.ends_op.ensures, c.if-ends_op.true)) (omega arith) (stops (placed a.text.now a.role a.a) _ e.ensures))
 
 pub returns-then-ends_op : goal.returns-then-ends_op
 unfolding turned
 returns-then-ends_op c =
     let a = c.args in
-    rescope (simp (← c.ends_op.ensures, c.if-ends_op.true)) (omega arith) (stops c.settle_names-s.ensures (placed a.text.now a.role a.a) c.if-s-eq0.false)
-
-pub shape_of-entries : goal.shape_of-entries
-shape_of-entries c = c.place_name-2.ensures.size
+    rescope (simp (← c.ends_op.ensures, c.if-ends_op.true)) (omega arith) (goes_on (placed a.text.now a.role a.a) c.place_name.result c.in_ok-settled.ensures c.place_name.ensures)
 
 pub returns : goal.returns
 unfolding turned

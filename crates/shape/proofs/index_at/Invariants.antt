@@ -1,4 +1,4 @@
-use Prim.Native.Nat.{◌≤◌, ◌<◌, ◌-◌}
+use Prim.Native.Nat.{◌≤◌, ◌<◌}
 use mathlib.Core.Path.{◌≡◌}
 use mathlib.Core.List.{◌++◌}
 use lib.ListN.{length, take, drop, get_or, replicate}
@@ -8,9 +8,6 @@ use Rattle.shape.proofs.index_at.Given as goal
 
 abbrev pub invariant-loop-d : goal.invariant-loop-d
 invariant-loop-d l =
-    (l.d ≤ l.rank) × (l.rank ≤ length l.dims) × (l.step ≡ size (rest l.dims l.rank l.d)) × (l.left < l.step)
-    × (drop l.d (unravel (take l.rank l.dims) l.k) ≡ unravel (rest l.dims l.rank l.d) l.left)
-    × (l.index ≡ tab l.d (λ j. get_or (unravel (take l.rank l.dims) l.k) j 0) ++ drop l.d (replicate 6 0))
-
-abbrev pub decreases-loop-d : goal.decreases-loop-d
-decreases-loop-d l = l.rank - l.d
+    (l.d ≤ l.s.rank) × (l.s.rank ≤ length l.s.dims) × (l.step ≡ size (rest l.s.dims l.s.rank l.d)) × (l.left < l.step)
+    × (drop l.d (unravel (take l.s.rank l.s.dims) l.k) ≡ unravel (rest l.s.dims l.s.rank l.d) l.left)
+    × (l.index ≡ tab l.d (λ j. get_or (unravel (take l.s.rank l.s.dims) l.k) j 0) ++ drop l.d (replicate 6 0))

@@ -1,32 +1,20 @@
 use mathlib.Core.Path.{◌≡◌}
 use native.Mathlib.Omega.{arith}
 use lib.ListN.{length, take}
-use lib.Seq.{get_or-take, length-take-le}
-use borrow.Author.Tests.{eq-eqb, ne_eqb}
+use lib.Seq.{length-take-le}
+use lib.Dec.{eqb}
 use borrow.Author.Rules.{rules}
-use Rattle.lists.proofs.SearchLaw.{passed_none, passed_here, passed-next, passed-end}
+use borrow.Author.Tests.{tests}
+use Rattle.std.proofs.lemmas.Iterator.{YieldsList-from_slice}
+use Rattle.std.proofs.lemmas.Iterator.Search.{position_from_yields_List}
+use Rattle.std.specs.List.{position}
+use Rattle.shape.proofs.PlaceLaw.{position-place}
 use Rattle.shape.proofs.place_in.Goals as goal
 
-pub loop-p-init : goal.loop-p-init
-loop-p-init c =
-    let six : length c.args.list ≡ 6 = search rules in
-    (omega arith, length-take-le _ c.args.list (omega arith), passed_none _ _)
-
-pub returns-then-list-p : goal.returns-then-list-p
-returns-then-list-p c =
-    let l = c.loop-p in
+pub returns-clause-place : goal.returns-clause-place
+returns-clause-place c =
     let a = c.args in
-    let e = get_or-take a.count a.list l.p 0 c.loop-p-test.true in
-    passed_here _ (take a.count a.list) l.p (omega arith) (rw e (eq-eqb _ _ c.if-list-p.true)) l.invariant.2
-
-pub loop-p-preserved : goal.loop-p-preserved
-loop-p-preserved c =
-    let l = c.loop-p in
-    let a = c.args in
-    let e = get_or-take a.count a.list l.p 0 c.loop-p-test.true in
-    (omega arith, l.invariant.1, passed-next _ (take a.count a.list) l.p (omega arith) (rw e (ne_eqb _ _ c.if-list-p.false)) l.invariant.2)
-
-pub returns : goal.returns
-returns c =
-    let a = c.args in
-    omega (arith, passed-end _ (take a.count a.list) c.loop-p.p (omega arith) c.loop-p.invariant.2)
+    let six : length a.list ≡ 6 = search rules in
+    let e : c.position.result ≡ position (λ y. eqb y a.x) (take a.count a.list) =
+    position_from_yields_List (λ y. eqb y a.x) _ _ _ c.position.ensures.ran (YieldsList-from_slice _ c.iter.ensures.rest) (λ x b q k. search (rules, tests)) in
+    position-place (λ y. eqb y a.x) (take a.count a.list) a.count (length-take-le a.count a.list (omega arith)) c.position.result e

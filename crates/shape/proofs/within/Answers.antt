@@ -1,29 +1,23 @@
-use mathlib.Core.Path.{◌≡◌, refl}
+use mathlib.Core.Path.{◌≡◌, ◌∙◌}
 use native.Mathlib.Omega.{arith}
-use lib.ListN.{length}
-use Rattle.shape.proofs.DimensionLaw.{rest-cons, rest_all, is_within-turn}
-use borrow.Author.Tests.{lt-ltb, le-ltb}
+use lib.ListN.{length, take, length-take}
+use lib.Dec.{ltb}
 use borrow.Author.Rules.{rules}
+use borrow.Author.Tests.{tests}
+use Rattle.std.proofs.lemmas.Iterator.{YieldsList-from_slice, YieldsList-from_zip}
+use Rattle.std.proofs.lemmas.Iterator.Search.{all_from_yields_List}
+use Prim.Native.Nat.{ℕ, min}
+use Rattle.std.specs.List.{list_all, zip}
+use Rattle.shape.specs.Dims.{dims_of}
+use Rattle.shape.proofs.WithinLaw.{all-within}
 use Rattle.shape.proofs.within.Goals as goal
 
-pub loop-d-init : goal.loop-d-init
-loop-d-init c =
-    let six : length c.args.s.dims ≡ 6 = search rules in
-    (omega arith, omega arith, refl)
-
-pub returns-then-dims-d : goal.returns-then-dims-d
-returns-then-dims-d c =
-    let l = c.loop-d in
-    let a = c.args in
-    let t = is_within-turn (rest-cons a.s.dims _ _ c.loop-d-test.true l.invariant.1) a.index l.d in
-    rw (t, le-ltb _ _ c.if-dims-d.true) at l.invariant.2
-
-pub loop-d-preserved : goal.loop-d-preserved
-loop-d-preserved c =
-    let l = c.loop-d in
-    let a = c.args in
-    let t = is_within-turn (rest-cons a.s.dims _ _ c.loop-d-test.true l.invariant.1) a.index l.d in
-    (omega arith, l.invariant.1, rw (t, lt-ltb _ _ c.if-dims-d.false) at l.invariant.2)
-
 pub returns : goal.returns
-returns c = rw (rest_all c.args.s.dims _ _ c.loop-d-test.false) at c.loop-d.invariant.2
+returns c =
+    let a = c.args in
+    let six : length a.index ≡ 6 = search rules in
+    let few : length (take a.s.rank a.s.dims) ≡ min a.s.rank (length a.s.dims) = length-take a.s.rank a.s.dims in
+    let e : c.all.result ≡ list_all (λ (p : ℕ × ℕ). ltb p.1 p.0) (zip (dims_of a.s) a.index) =
+    all_from_yields_List (λ (p : ℕ × ℕ). ltb p.1 p.0) c.all.new.self _ _ c.all.ensures.ran
+    (YieldsList-from_zip {s = c.zip.result} (YieldsList-from_slice (dims_of a.s) cc) (YieldsList-from_slice a.index cc)) (λ x b q k. search (rules, tests)) in
+    e ∙ all-within (dims_of a.s) a.index (omega arith)

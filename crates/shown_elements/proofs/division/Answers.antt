@@ -1,5 +1,5 @@
 use Rattle.shown_elements.proofs.HeldLaw.{holds}
 use Rattle.shown_elements.proofs.division.Goals as goal
 
-pub division_into-step-requires : goal.division_into-step-requires
-division_into-step-requires g c = let p = c.requires in (holds _ _ _ p.0, holds _ _ _ p.1)
+pub division_into-requires : goal.division_into-requires
+division_into-requires g c = let p = c.requires in (holds _ _ _ p.0, holds _ _ _ p.1)

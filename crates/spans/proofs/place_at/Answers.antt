@@ -12,22 +12,22 @@ place_of-requires c = let m = arity-few c.args.op in let q = c.arity_of.ensures 
 
 pub offset_bounds-offsets-i : goal.offset_bounds-offsets-i
 offset_bounds-offsets-i c =
-    let small_ : c.value_named-i.result < 264 = (let s = c in
-    omega (arith, c.value_named-i.ensures, s.requires.0, named-le s.args.text.now s.args.vs.list s.args.n c.place_of.result)) in
+    let small_ : c.unwrap_or-i.result < 264 = (let s = c in
+    omega (arith, c.unwrap_or-i.ensures, c.value_named.ensures.place, s.requires.0, named-le s.args.text.now s.args.vs.list s.args.n c.place_of.result)) in
     omega (arith, small_)
 
 pub bounds-offsets-i : goal.bounds-offsets-i
 bounds-offsets-i c =
-    let small_ : c.value_named-i.result < 264 = (let s = c in
-    omega (arith, c.value_named-i.ensures, s.requires.0, named-le s.args.text.now s.args.vs.list s.args.n c.place_of.result)) in
+    let small_ : c.unwrap_or-i.result < 264 = (let s = c in
+    omega (arith, c.unwrap_or-i.ensures, c.value_named.ensures.place, s.requires.0, named-le s.args.text.now s.args.vs.list s.args.n c.place_of.result)) in
     omega (arith, small_)
 
 pub returns-then-j-arity_of : goal.returns-then-j-arity_of
 returns-then-j-arity_of c =
-    let small_ : c.value_named-i.result < 264 = (let s = c in
-    omega (arith, c.value_named-i.ensures, s.requires.0, named-le s.args.text.now s.args.vs.list s.args.n c.place_of.result)) in
+    let small_ : c.unwrap_or-i.result < 264 = (let s = c in
+    omega (arith, c.unwrap_or-i.ensures, c.value_named.ensures.place, s.requires.0, named-le s.args.text.now s.args.vs.list s.args.n c.place_of.result)) in
     let b = c in
-    rw (← b.arity_of.ensures, lt-ltb _ _ b.if-j-arity_of.true, ← c.place_of.ensures, ← c.value_named-i.ensures, b.requires.1)
+    rw (← b.arity_of.ensures, lt-ltb _ _ b.if-j-arity_of.true, ← c.place_of.ensures, ← c.value_named.ensures.place, ← c.unwrap_or-i.ensures, b.requires.1)
     (offset_read _ _ refl _ (small_))
 
 pub returns : goal.returns

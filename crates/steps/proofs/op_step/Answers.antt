@@ -3,13 +3,13 @@ use native.Mathlib.Omega.{arith}
 use Rattle.steps.proofs.StepsLaw.{step-asks, step-means, few-values}
 use Rattle.steps.proofs.op_step.Goals as goal
 
-pub offset_bounds-ops-k : goal.offset_bounds-ops-k
-offset_bounds-ops-k c =
+pub offset_bounds-p-k : goal.offset_bounds-p-k
+offset_bounds-p-k c =
     let few_ : (c.args.k < 256) × (c.args.vs.inputs ≤ 8) = (few-values _ _ _ _ c.requires.accepts.0 c.args.k c.args.slots.now c.requires.accepts.1) in
     omega (arith, (few_).0)
 
-pub bounds-ops-k : goal.bounds-ops-k
-bounds-ops-k c =
+pub bounds-p-k : goal.bounds-p-k
+bounds-p-k c =
     let few_ : (c.args.k < 256) × (c.args.vs.inputs ≤ 8) = (few-values _ _ _ _ c.requires.accepts.0 c.args.k c.args.slots.now c.requires.accepts.1) in
     omega (arith, (few_).0)
 

@@ -1,5 +1,7 @@
 use Prim.Native.Nat.{◌+◌, ◌-◌, ◌≤◌}
 use mathlib.Core.Path.{◌≡◌, ◌∙◌, sym}
+use borrow.Author.Rules.{rules}
+use Rattle.std.specs.Prelude.{Err}
 use Rattle.offsets.specs.Offsets.{size_at}
 use Rattle.steps.proofs.StepsLaw.{step-holds}
 use Rattle.evaluation.proofs.FillLaw.{stretch-order, lent_length, filled, unfilled}
@@ -15,46 +17,40 @@ slice_bounds-op_step-start c =
     let in_order_ : (c.args.at ≤ c.args.end) × (c.args.end - c.args.at ≡ size_at c.args.vs (c.args.vs.inputs + c.args.k)) = (stretch-order _ _ _ _ _ _ c.requires.stretch) in
     (in_order_).0
 
-pub op_step-step-requires : goal.op_step-step-requires
-op_step-step-requires c =
+pub op_step-requires : goal.op_step-requires
+op_step-requires c =
     let in_order_ : (c.args.at ≤ c.args.end) × (c.args.end - c.args.at ≡ size_at c.args.vs (c.args.vs.inputs + c.args.k)) = (stretch-order _ _ _ _ _ _ c.requires.stretch) in
-    let s = c in
-    let o = in_order_ in
-    record { accepts = (s.requires.accepts.0, s.requires.accepts.1); values_held = (s.requires.accepts.2, lent_length s.args.at s.args.end s.args.store.now o.0 s.requires.stretch.within ∙ o.1) }
+    record { accepts = (c.requires.accepts.0, c.requires.accepts.1); values_held = (c.requires.accepts.2, lent_length c.args.at c.args.end c.args.store.now (in_order_).0 c.requires.stretch.within ∙ (in_order_).1) }
 
-pub slice_bounds-constant_into-count : goal.slice_bounds-constant_into-count
-slice_bounds-constant_into-count c =
+pub returns-in_err-op_step : goal.returns-in_err-op_step
+returns-in_err-op_step c =
+    let in_order_ : (c.args.at ≤ c.args.end) × (c.args.end - c.args.at ≡ size_at c.args.vs (c.args.vs.inputs + c.args.k)) = (stretch-order _ _ _ _ _ _ c.requires.stretch) in
+    let same : c.from_residual.result ≡ Err c.in_err-op_step.field-0.0 = search rules in
+    rw same (unfilled c.args.at c.args.end c.args.store.now (in_order_).0 c.requires.stretch.within c.args.done.now _ _ _ _ c.op_step.ensures c.in_err-op_step.was)
+
+pub returns : goal.returns
+returns c =
+    let in_order_ : (c.args.at ≤ c.args.end) × (c.args.end - c.args.at ≡ size_at c.args.vs (c.args.vs.inputs + c.args.k)) = (stretch-order _ _ _ _ _ _ c.requires.stretch) in
+    filled c.args.at c.args.end c.args.store.now (in_order_).0 c.requires.stretch.within c.args.done.now _ _ _ _
+    (λ v e. (step-holds _ _ _ _ c.requires.accepts.0 _ _ c.requires.accepts.1 c.requires.accepts.2 v e).sized ∙ sym (in_order_).1)
+    c.op_step.ensures c.in_ok-op_step.was c.copy_from_slice.ensures.after
+
+pub slice_bounds-copy_from_slice-count : goal.slice_bounds-copy_from_slice-count
+slice_bounds-copy_from_slice-count c =
     let in_order_ : (c.args.at ≤ c.args.end) × (c.args.end - c.args.at ≡ size_at c.args.vs (c.args.vs.inputs + c.args.k)) = (stretch-order _ _ _ _ _ _ c.requires.stretch) in
     (in_order_).0
 
-pub slice_bounds-constant_into-start : goal.slice_bounds-constant_into-start
-slice_bounds-constant_into-start c =
+pub slice_bounds-copy_from_slice-start : goal.slice_bounds-copy_from_slice-start
+slice_bounds-copy_from_slice-start c =
     let in_order_ : (c.args.at ≤ c.args.end) × (c.args.end - c.args.at ≡ size_at c.args.vs (c.args.vs.inputs + c.args.k)) = (stretch-order _ _ _ _ _ _ c.requires.stretch) in
     (in_order_).0
 
-pub slice_bounds-constant_into-count-in-Filled : goal.slice_bounds-constant_into-count-in-Filled
-slice_bounds-constant_into-count-in-Filled c =
+pub slice_bounds-copy_from_slice-count-2 : goal.slice_bounds-copy_from_slice-count-2
+slice_bounds-copy_from_slice-count-2 c =
     let in_order_ : (c.args.at ≤ c.args.end) × (c.args.end - c.args.at ≡ size_at c.args.vs (c.args.vs.inputs + c.args.k)) = (stretch-order _ _ _ _ _ _ c.requires.stretch) in
     (in_order_).0
 
-pub slice_bounds-constant_into-start-in-Filled : goal.slice_bounds-constant_into-start-in-Filled
-slice_bounds-constant_into-start-in-Filled c =
+pub slice_bounds-copy_from_slice-start-2 : goal.slice_bounds-copy_from_slice-start-2
+slice_bounds-copy_from_slice-start-2 c =
     let in_order_ : (c.args.at ≤ c.args.end) × (c.args.end - c.args.at ≡ size_at c.args.vs (c.args.vs.inputs + c.args.k)) = (stretch-order _ _ _ _ _ _ c.requires.stretch) in
     (in_order_).0
-
-pub returns-in-Filled : goal.returns-in-Filled
-returns-in-Filled c =
-    let in_order_ : (c.args.at ≤ c.args.end) × (c.args.end - c.args.at ≡ size_at c.args.vs (c.args.vs.inputs + c.args.k)) = (stretch-order _ _ _ _ _ _ c.requires.stretch) in
-    let b = c in
-    let s = b in
-    let o = in_order_ in
-    filled s.args.at s.args.end s.args.store.now o.0 s.requires.stretch.within s.args.done.now _ _ _ _
-    (λ v e. (step-holds _ _ _ _ s.requires.accepts.0 _ _ s.requires.accepts.1 s.requires.accepts.2 v e).sized ∙ sym o.1)
-    b.op_step-step.ensures b.in-Filled.is c.constant_into.ensures
-
-pub returns-in-Zero : goal.returns-in-Zero
-returns-in-Zero c =
-    let in_order_ : (c.args.at ≤ c.args.end) × (c.args.end - c.args.at ≡ size_at c.args.vs (c.args.vs.inputs + c.args.k)) = (stretch-order _ _ _ _ _ _ c.requires.stretch) in
-    let s = c in
-    unfilled s.args.at s.args.end s.args.store.now (in_order_).0 s.requires.stretch.within s.args.done.now _ _ _ _ _
-    c.op_step-step.ensures c.in-Zero.is

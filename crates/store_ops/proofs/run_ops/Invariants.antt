@@ -1,4 +1,3 @@
-use Prim.Native.Nat.{◌-◌, ◌≤◌}
 use mathlib.Core.Path.{◌≡◌}
 use lib.ListN.{length, take}
 use Rattle.inputs.specs.Inputs.{input_slots}
@@ -7,7 +6,4 @@ use Rattle.store_ops.proofs.run_ops.Given as goal
 
 abbrev pub invariant-loop-k : goal.invariant-loop-k
 invariant-loop-k l =
-    (l.k ≤ l.n) × (length l.done ≡ length l.initial.done) × (length l.store ≡ length l.initial.store) × State l.text (take (input_slots l.vs) l.initial.store) l.initial.store l.k l.done l.store
-
-abbrev pub decreases-loop-k : goal.decreases-loop-k
-decreases-loop-k l = l.n - l.k
+    (length l.done ≡ length l.initial.done) × (length l.store ≡ length l.initial.store) × State l.text (take (input_slots l.vs) l.initial.store) l.initial.store l.k l.done l.store

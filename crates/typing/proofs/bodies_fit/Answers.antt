@@ -2,10 +2,6 @@ use Rattle.typing.proofs.TypingLaw.{and-true}
 use Rattle.typing.specs.Typing.{bodies_fit}
 use Rattle.typing.proofs.bodies_fit.Goals as goal
 
-pub returns-then-row : goal.returns-then-row
-unfolding bodies_fit
-returns-then-row c = simp (← c.both.ensures, ← c.body_fits.ensures, ← c.place_of.ensures, c.if-row.true, ← c.count_of-n.ensures)
-
 pub returns : goal.returns
 unfolding bodies_fit
 returns c = rw (c.if-row.false, ← c.count_of-n.ensures, and-true _)

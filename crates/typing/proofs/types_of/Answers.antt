@@ -17,15 +17,15 @@ loop-j-preserved c =
     let a = c.args in
     let v = c.loop-j.invariant in
     let j : ℕ = c.loop-j.j in
-    let l : List TensorType = replicate 8 c.blank_type-none.result in (
+    let l : List TensorType = replicate 8 c.blank_type-types.result in (
       omega arith,
-      ap (λ (l : List TensorType). set l j c.type_at-t.result) v.1 ∙ fill_step j (types_of a.text.now a.op) l c.type_at-t.result (omega arith) c.type_at-t.ensures,
+      ap (λ (l : List TensorType). set l j c.type_at.result) v.1 ∙ fill_step j (types_of a.text.now a.op) l c.type_at.result (omega arith) c.type_at.ensures,
     )
 
 pub returns : goal.returns
 returns c =
     let a = c.args in
     let h = c in
-    let l : List TensorType = replicate 8 c.blank_type-none.result in
+    let l : List TensorType = replicate 8 c.blank_type-types.result in
     let e : h.loop-j.j ≡ 8 = omega arith in
     h.loop-j.invariant.1 ∙ ap (λ (n : ℕ). tab n (types_of a.text.now a.op) ++ drop n l) e ∙ fill-whole 8 (types_of a.text.now a.op) l (omega arith)

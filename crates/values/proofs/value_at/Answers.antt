@@ -11,12 +11,12 @@ pub returns-then-i-n : goal.returns-then-i-n
 unfolding value_at
 returns-then-i-n c = simp (← c.input_value.ensures, lt-ltb _ _ c.if-i-n.true, ← c.inputs_of-n.ensures)
 
-pub offset_bounds-ops-i : goal.offset_bounds-ops-i
-offset_bounds-ops-i c = omega (arith, c.inputs_of-n.ensures, ops-small c.args.p)
-
-pub bounds-ops-i : goal.bounds-ops-i
-bounds-ops-i c = omega (arith, c.inputs_of-n.ensures, ops-small c.args.p)
-
 pub returns : goal.returns
 unfolding value_at
 returns c = simp (← c.result_value.ensures, ← c.op_at.ensures, le-ltb _ _ c.if-i-n.false, ← c.inputs_of-n.ensures)
+
+pub offset_bounds-p-i : goal.offset_bounds-p-i
+offset_bounds-p-i c = omega (arith, c.inputs_of-n.ensures, ops-small c.args.p)
+
+pub bounds-p-i : goal.bounds-p-i
+bounds-p-i c = omega (arith, c.inputs_of-n.ensures, ops-small c.args.p)

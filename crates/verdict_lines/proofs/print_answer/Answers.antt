@@ -1,8 +1,12 @@
+use Rattle.judge.proofs.RefusedLaw.{refused-number}
+use Rattle.judge.specs.Refusals.{numbers_of}
+use Rattle.std.specs.Prelude.{Ok, Err}
+use Rattle.std.proofs.Common.{refl}
 use Rattle.verdict_lines.proofs.LineLaw.{answer-accepted, answer-refused}
 use Rattle.verdict_lines.proofs.print_answer.Goals as goal
 
-pub returns-then-r-eq0 : goal.returns-then-r-eq0
-returns-then-r-eq0 c = let s = c in answer-accepted s.args.r _ _ s.requires c.if-r-eq0.true c.put_bytes.ensures
+pub returns-in-Ok : goal.returns-in-Ok
+returns-in-Ok c = rw c.in-Ok.is (answer-accepted (numbers_of (Ok tt)) _ _ c.requires refl c.put_text.ensures)
 
-pub returns : goal.returns
-returns c = let s = c in answer-refused s.args.r _ _ c.if-r-eq0.false c.print_refused.ensures
+pub returns-in-Err : goal.returns-in-Err
+returns-in-Err c = rw c.in-Err.is (answer-refused (numbers_of (Err c.in-Err.e)) _ _ (refused-number c.in-Err.e) c.print_refused.ensures)

@@ -5,4 +5,4 @@ use Rattle.verdict_lines.proofs.put_spaced.Goals as goal
 pub returns : goal.returns
 returns c =
     let d = c.decimal-k in
-    spaced-laid c.args.n _ _ _ _ _ (omega (arith, c.ranges.n)) d.ensures.len d.ensures.digits c.put_byte-p.ensures c.put_bytes.ensures
+    spaced-laid c.args.n _ _ _ _ _ (omega (arith, c.ranges.n)) d.ensures.len d.ensures.digits c.put-p.ensures c.put_text.ensures

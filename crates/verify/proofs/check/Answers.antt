@@ -1,14 +1,18 @@
-use borrow.Author.Tests.{eq-eqb, ne_eqb}
+use mathlib.Core.Path.{sym, ap, ◌∙◌}
+use Rattle.judge.specs.Refusals.{Refusal}
+use Rattle.opwise.proofs.HandedLaw.{handed-on, refused-first, fine-first}
 use Rattle.verify.specs.Verify.{verdict}
 use Rattle.verify.proofs.check.Goals as goal
 
-pub checked-requires : goal.checked-requires
-checked-requires c = rw (← c.read_refusal-r.ensures) c.if-r-eq0.true
-
-pub returns-then-r-eq0 : goal.returns-then-r-eq0
+pub returns-in_err-read_refusal : goal.returns-in_err-read_refusal
 unfolding verdict
-returns-then-r-eq0 c = simp (← c.checked.ensures, ← c.read_refusal-r.ensures, eq-eqb _ _ c.if-r-eq0.true)
+returns-in_err-read_refusal c =
+    let e = c.in_err-read_refusal.field-0.0 in
+    rw (handed-on c.from_residual.result e c.from_residual.ensures.1) (c.in_err-read_refusal.ensures ∙ sym (refused-first e _ _ c.in_err-read_refusal.ensures))
+
+pub checked-requires : goal.checked-requires
+checked-requires c = ap (λ (x : Refusal). x.number) (sym c.in_ok-read_refusal.ensures)
 
 pub returns : goal.returns
 unfolding verdict
-returns c = simp (← c.read_refusal-r.ensures, ne_eqb _ _ c.if-r-eq0.false)
+returns c = rw c.checked.ensures (sym (fine-first _ _ c.in_ok-read_refusal.ensures))

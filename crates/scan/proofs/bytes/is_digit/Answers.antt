@@ -1,7 +1,16 @@
+use Rattle.std.proofs.Common.{arith}
+use Rattle.std.proofs.lemmas.Bool.Decides.{nat_tests}
 use Rattle.scan.specs.Bytes.{is_digit}
-use borrow.Author.Rules.{rules}
 use Rattle.scan.proofs.bytes.is_digit.Goals as goal
 
-pub returns : goal.returns
+pub returns-in-48-to-57 : goal.returns-in-48-to-57
 unfolding is_digit
-returns c = search rules
+returns-in-48-to-57 c = grind (arith, nat_tests)
+
+pub returns-in_default : goal.returns-in_default
+unfolding is_digit
+returns-in_default c = grind (arith, nat_tests)
+
+pub returns-in_default-2 : goal.returns-in_default-2
+unfolding is_digit
+returns-in_default-2 c = grind (arith, nat_tests)

@@ -1,14 +1,28 @@
+use Rattle.std.proofs.Common.{arith}
+use Rattle.std.proofs.lemmas.Bool.Decides.{nat_tests}
 use Rattle.scan.specs.Bytes.{is_letter}
 use Rattle.scan.proofs.bytes.is_letter.Goals as goal
 
-pub returns-then-is_between : goal.returns-then-is_between
+pub returns-in_default : goal.returns-in_default
 unfolding is_letter
-returns-then-is_between c = simp (c.if-is_between.true, ← c.is_between.ensures)
+returns-in_default c = grind (arith, nat_tests)
 
-pub returns-then-is_between-2 : goal.returns-then-is_between-2
+pub returns-in_default-2 : goal.returns-in_default-2
 unfolding is_letter
-returns-then-is_between-2 c = simp (c.if-is_between-2.true, ← c.is_between-2.ensures, c.if-is_between.false, ← c.is_between.ensures)
+returns-in_default-2 c = grind (arith, nat_tests)
 
-pub returns : goal.returns
+pub returns-in_default-3 : goal.returns-in_default-3
 unfolding is_letter
-returns c = simp (c.if-is_between-2.false, ← c.is_between-2.ensures, c.if-is_between.false, ← c.is_between.ensures)
+returns-in_default-3 c = grind (arith, nat_tests)
+
+pub returns-in-97-to-122 : goal.returns-in-97-to-122
+unfolding is_letter
+returns-in-97-to-122 c = grind (arith, nat_tests)
+
+pub returns-in-97-to-122-2 : goal.returns-in-97-to-122-2
+unfolding is_letter
+returns-in-97-to-122-2 c = grind (arith, nat_tests)
+
+pub returns-in-97-to-122-3 : goal.returns-in-97-to-122-3
+unfolding is_letter
+returns-in-97-to-122-3 c = grind (arith, nat_tests)

@@ -1,17 +1,12 @@
-use mathlib.Core.Path.{sym}
-use Rattle.scan.proofs.ByteLaw.{or-false}
-use borrow.Author.Tests.{eq-eqb, ne_eqb}
+use Rattle.std.proofs.Common.{arith}
+use Rattle.std.proofs.lemmas.Bool.Decides.{nat_tests}
 use Rattle.scan.specs.Bytes.{is_sigil}
 use Rattle.scan.proofs.bytes.is_sigil.Goals as goal
 
-pub returns-then-b-eq37 : goal.returns-then-b-eq37
+pub returns-in-37 : goal.returns-in-37
 unfolding is_sigil
-returns-then-b-eq37 c = simp (eq-eqb _ _ c.if-b-eq37.true)
+returns-in-37 c = grind (arith, nat_tests)
 
-pub returns-then-b-eq64 : goal.returns-then-b-eq64
+pub returns-in_default : goal.returns-in_default
 unfolding is_sigil
-returns-then-b-eq64 c = simp (eq-eqb _ _ c.if-b-eq64.true, ne_eqb _ _ c.if-b-eq37.false)
-
-pub returns : goal.returns
-unfolding is_sigil
-returns c = rw (ne_eqb _ _ c.if-b-eq37.false, ne_eqb _ _ c.if-b-eq64.false) (sym (or-false _))
+returns-in_default c = grind (arith, nat_tests)

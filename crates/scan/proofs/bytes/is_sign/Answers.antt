@@ -1,13 +1,12 @@
-use borrow.Author.Tests.{ne_eqb, eq-eqb}
-use mathlib.Core.Path.{sym}
-use Rattle.scan.proofs.ByteLaw.{or-false}
+use Rattle.std.proofs.Common.{arith}
+use Rattle.std.proofs.lemmas.Bool.Decides.{nat_tests}
 use Rattle.scan.specs.Bytes.{is_sign}
 use Rattle.scan.proofs.bytes.is_sign.Goals as goal
 
-pub returns-then-b-eq45 : goal.returns-then-b-eq45
+pub returns-in-45 : goal.returns-in-45
 unfolding is_sign
-returns-then-b-eq45 c = simp (eq-eqb _ _ c.if-b-eq45.true)
+returns-in-45 c = grind (arith, nat_tests)
 
-pub returns : goal.returns
+pub returns-in_default : goal.returns-in_default
 unfolding is_sign
-returns c = rw (ne_eqb _ _ c.if-b-eq45.false) (sym (or-false _))
+returns-in_default c = grind (arith, nat_tests)

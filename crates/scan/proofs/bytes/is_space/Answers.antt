@@ -1,21 +1,20 @@
-use mathlib.Core.Path.{sym}
-use Rattle.scan.proofs.ByteLaw.{or-false}
-use borrow.Author.Tests.{eq-eqb, ne_eqb}
+use Rattle.std.proofs.Common.{arith}
+use Rattle.std.proofs.lemmas.Bool.Decides.{nat_tests}
 use Rattle.scan.specs.Bytes.{is_space}
 use Rattle.scan.proofs.bytes.is_space.Goals as goal
 
-pub returns-then-b-eq32 : goal.returns-then-b-eq32
+pub returns-in_default : goal.returns-in_default
 unfolding is_space
-returns-then-b-eq32 c = simp (eq-eqb _ _ c.if-b-eq32.true)
+returns-in_default c = grind (arith, nat_tests)
 
-pub returns-then-b-eq9 : goal.returns-then-b-eq9
+pub returns-in_default-2 : goal.returns-in_default-2
 unfolding is_space
-returns-then-b-eq9 c = simp (eq-eqb _ _ c.if-b-eq9.true, ne_eqb _ _ c.if-b-eq32.false)
+returns-in_default-2 c = grind (arith, nat_tests)
 
-pub returns-then-b-eq13 : goal.returns-then-b-eq13
+pub returns-in-32 : goal.returns-in-32
 unfolding is_space
-returns-then-b-eq13 c = simp (eq-eqb _ _ c.if-b-eq13.true, ne_eqb _ _ c.if-b-eq9.false, ne_eqb _ _ c.if-b-eq32.false)
+returns-in-32 c = grind (arith, nat_tests)
 
-pub returns : goal.returns
+pub returns-in-32-2 : goal.returns-in-32-2
 unfolding is_space
-returns c = rw (ne_eqb _ _ c.if-b-eq32.false, ne_eqb _ _ c.if-b-eq9.false, ne_eqb _ _ c.if-b-eq13.false) (sym (or-false _))
+returns-in-32-2 c = grind (arith, nat_tests)

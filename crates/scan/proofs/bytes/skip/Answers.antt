@@ -1,24 +1,22 @@
-use mathlib.Core.Path.{sym, ◌∙◌}
+use Rattle.std.proofs.Common.{sym, ◌∙◌}
 use Rattle.scan.specs.Bytes.{in_comment, skip_end}
-use Rattle.scan.proofs.ByteLaw.{skip-past, skip_step}
+use Rattle.scan.proofs.ByteLaw.{tail-drop, tail-end, skip-past, skip_step}
 use Rattle.scan.proofs.bytes.skip.Goals as goal
+use Rattle.scan.proofs.bytes.skip.Goals.{then-comment, else-comment+then-starts, else-comment+else-starts+else-not-is_space}
 
-pub loop-i-preserved-then-comment : goal.loop-i-preserved-then-comment
-unfolding in_comment
-loop-i-preserved-then-comment c = rw (← c.loop-i.invariant, skip_step _ _ _ c.loop-i-test.true) (simp c.if-comment.true)
-
-pub loop-i-preserved-then-opens_comment : goal.loop-i-preserved-then-opens_comment
-unfolding in_comment
-loop-i-preserved-then-opens_comment c = rw (← c.loop-i.invariant, skip_step _ _ _ c.loop-i-test.true) (simp (c.if-comment.false, ← c.opens_comment.ensures, c.if-opens_comment.true))
+pub returns-then-not-is_space : goal.returns-then-not-is_space
+unfolding skip_end in_comment
+returns-then-not-is_space c = rw (← c.tail-b-items.ensures, ← c.loop-i.invariant, skip_step _ _ _ _ c.loop-i-test.true)
+    (simp (c.if-comment.false, tail-drop c.loop-i.i c.args.at c.args.text.now c.tail-b-items.ensures, ← c.starts.ensures, c.if-starts.false, ← c.is_space.ensures, c.if-not-is_space.true))
 
 pub loop-i-preserved : goal.loop-i-preserved
 unfolding in_comment
-loop-i-preserved c = rw (← c.loop-i.invariant, skip_step _ _ _ c.loop-i-test.true) (simp (c.if-comment.false, ← c.opens_comment.ensures, c.if-opens_comment.false, ← c.is_space.ensures, c.if-is_space.true))
-
-pub returns-else-is_space : goal.returns-else-is_space
-unfolding skip_end in_comment
-returns-else-is_space c = rw (← c.loop-i.invariant, skip_step _ _ _ c.loop-i-test.true) (simp (c.if-comment.false, ← c.opens_comment.ensures, c.if-opens_comment.false, ← c.is_space.ensures, c.if-is_space.false))
+loop-i-preserved c = rw (← c.loop-i.invariant, skip_step _ _ _ _ c.loop-i-test.true) (elim c.if-comment.branch [
+  | then-comment w ↦ simp (w.comment-is, w.if-comment.true)
+  | else-comment+then-starts w ↦ simp (w.comment-is, w.if-comment.false, tail-drop c.loop-i.i c.args.at c.args.text.now c.tail-b-items.ensures, ← w.starts.ensures, w.if-starts.true)
+  | else-comment+else-starts+else-not-is_space w ↦ simp (w.comment-is, w.if-comment.false, tail-drop c.loop-i.i c.args.at c.args.text.now c.tail-b-items.ensures, ← w.starts.ensures, w.if-starts.false, ← w.is_space.ensures, w.if-not-is_space.false)
+])
 
 pub returns : goal.returns
 unfolding skip_end
-returns c = sym (skip-past _ _ _ c.loop-i-test.false) ∙ c.loop-i.invariant
+returns c = rw (← c.tail-b-items.ensures, ← c.loop-i.invariant, skip-past _ _ _ _ c.loop-i-test.false) (c.max.ensures ∙ sym (tail-end _ _ _ _ c.tail-b-items.ensures c.loop-i.auto.i-end c.loop-i-test.false))

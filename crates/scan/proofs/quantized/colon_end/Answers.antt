@@ -11,6 +11,6 @@ pub returns-then-byte_at-eq58 : goal.returns-then-byte_at-eq58
 unfolding colon_end
 returns-then-byte_at-eq58 c = simp (← c.byte_at.ensures, eq-eqb _ _ c.if-byte_at-eq58.true, ← c.integer_end.ensures)
 
-pub returns : goal.returns
+pub returns-else-byte_at-eq58 : goal.returns-else-byte_at-eq58
 unfolding colon_end
-returns c = simp (← c.byte_at.ensures, ne_eqb _ _ c.if-byte_at-eq58.false)
+returns-else-byte_at-eq58 c = simp (← c.byte_at.ensures, ne_eqb _ _ c.if-byte_at-eq58.false)

@@ -11,6 +11,6 @@ pub returns-then-byte_at-eq46 : goal.returns-then-byte_at-eq46
 unfolding fraction_end
 returns-then-byte_at-eq46 c = simp (← c.byte_at.ensures, eq-eqb _ _ c.if-byte_at-eq46.true, ← c.run_end.ensures)
 
-pub returns : goal.returns
+pub returns-else-byte_at-eq46 : goal.returns-else-byte_at-eq46
 unfolding fraction_end
-returns c = simp (← c.byte_at.ensures, ne_eqb _ _ c.if-byte_at-eq46.false)
+returns-else-byte_at-eq46 c = simp (← c.byte_at.ensures, ne_eqb _ _ c.if-byte_at-eq46.false)

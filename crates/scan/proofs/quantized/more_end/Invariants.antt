@@ -1,10 +1,6 @@
-use mathlib.Core.Path.{◌≡◌}
-use lib.ListN.{length}
+use Rattle.std.proofs.Common.{◌≡◌, ◌-◌, length}
 use Rattle.scan.specs.Quantized.{more_end}
 use Rattle.scan.proofs.quantized.more_end.Given as goal
 
-abbrev pub invariant-loop-left : goal.invariant-loop-left
-invariant-loop-left l = more_end l.left l.text l.i ≡ more_end (length l.text) l.text l.at
-
-abbrev pub decreases-loop-left : goal.decreases-loop-left
-decreases-loop-left l = l.left
+abbrev pub invariant-loop : goal.invariant-loop
+invariant-loop l = more_end (length l.text - l.counter) l.text l.i ≡ more_end (length l.text) l.text l.at

@@ -11,6 +11,6 @@ pub returns-then-byte_at-eq123 : goal.returns-then-byte_at-eq123
 unfolding parameters_end
 returns-then-byte_at-eq123 c = simp (← c.byte_at.ensures, eq-eqb _ _ c.if-byte_at-eq123.true, ← c.parameter_end.ensures, ← c.more_end.ensures, ← c.byte_end.ensures)
 
-pub returns : goal.returns
+pub returns-else-byte_at-eq123 : goal.returns-else-byte_at-eq123
 unfolding parameters_end
-returns c = simp (← c.byte_at.ensures, ne_eqb _ _ c.if-byte_at-eq123.false, ← c.parameter_end-2.ensures)
+returns-else-byte_at-eq123 c = simp (← c.byte_at.ensures, ne_eqb _ _ c.if-byte_at-eq123.false, ← c.parameter_end-else-byte_at-eq123.ensures)

@@ -1,23 +1,28 @@
-use Rattle.scan.proofs.ByteLaw.{byte_inside}
-use borrow.Author.Tests.{eq-eqb, ne_eqb}
-use native.Mathlib.Omega.{arith}
+use Rattle.std.proofs.Common.{arith, refl, length, ◌<◌}
+use Rattle.std.proofs.lemmas.Bool.Decides.{nat_tests}
+use Rattle.scan.proofs.ByteLaw.{test-inside}
+use Rattle.scan.specs.Ascii.{ascii}
+use Rattle.scan.specs.Bytes.{among}
 use Rattle.scan.specs.Quantized.{scientific_end}
 use Rattle.scan.proofs.quantized.scientific_end.Goals as goal
+use Rattle.scan.proofs.quantized.scientific_end.Goals.{in-101, in_default}
 
 pub overflow_add-at : goal.overflow_add-at
-overflow_add-at c = omega (arith, byte_inside c.args.text.now c.args.at c.byte_at-b.ensures c.if-b-eq101.true (omega arith))
+overflow_add-at c = elim c.match-matches.branch [
+  | in-101 w ↦ let h : c.args.at < length c.args.text.now = test-inside (among (ascii "eE")) c.args.text.now c.args.at refl (rw (← c.byte_at.ensures) (grind (arith, nat_tests))) in omega arith
+  | in_default w ↦ absurd (cc)
+]
 
-pub returns-then-b-eq101 : goal.returns-then-b-eq101
+pub returns-then-matches : goal.returns-then-matches
 unfolding scientific_end
-returns-then-b-eq101 c = simp (← c.byte_at-b.ensures, eq-eqb _ _ c.if-b-eq101.true, ← c.integer_end.ensures)
+returns-then-matches c = elim c.match-matches.branch [
+  | in-101 w ↦ grind (arith, nat_tests)
+  | in_default w ↦ grind (arith, nat_tests)
+]
 
-pub overflow_add-at-then-b-eq69 : goal.overflow_add-at-then-b-eq69
-overflow_add-at-then-b-eq69 c = omega (arith, byte_inside c.args.text.now c.args.at c.byte_at-b.ensures c.if-b-eq69.true (omega arith))
-
-pub returns-then-b-eq69 : goal.returns-then-b-eq69
+pub returns-else-matches : goal.returns-else-matches
 unfolding scientific_end
-returns-then-b-eq69 c = simp (← c.byte_at-b.ensures, ne_eqb _ _ c.if-b-eq101.false, eq-eqb _ _ c.if-b-eq69.true, ← c.integer_end-then-b-eq69.ensures)
-
-pub returns : goal.returns
-unfolding scientific_end
-returns c = simp (← c.byte_at-b.ensures, ne_eqb _ _ c.if-b-eq101.false, ne_eqb _ _ c.if-b-eq69.false)
+returns-else-matches c = elim c.match-matches.branch [
+  | in-101 w ↦ grind (arith, nat_tests)
+  | in_default w ↦ grind (arith, nat_tests)
+]

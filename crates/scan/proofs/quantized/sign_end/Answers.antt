@@ -13,6 +13,6 @@ pub returns-then-is_sign : goal.returns-then-is_sign
 unfolding sign_end
 returns-then-is_sign c = simp (← c.byte_at.ensures, ← c.is_sign.ensures, c.if-is_sign.true)
 
-pub returns : goal.returns
+pub returns-else-is_sign : goal.returns-else-is_sign
 unfolding sign_end
-returns c = simp (← c.byte_at.ensures, ← c.is_sign.ensures, c.if-is_sign.false)
+returns-else-is_sign c = simp (← c.byte_at.ensures, ← c.is_sign.ensures, c.if-is_sign.false)

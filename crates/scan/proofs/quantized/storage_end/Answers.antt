@@ -11,6 +11,6 @@ pub returns-then-byte_at-eq60 : goal.returns-then-byte_at-eq60
 unfolding storage_end
 returns-then-byte_at-eq60 c = simp (← c.byte_at.ensures, eq-eqb _ _ c.if-byte_at-eq60.true, ← c.integer_end.ensures, ← c.byte_end-colon.ensures, ← c.integer_end-then-byte_at-eq60.ensures, ← c.byte_end.ensures)
 
-pub returns : goal.returns
+pub returns-else-byte_at-eq60 : goal.returns-else-byte_at-eq60
 unfolding storage_end
-returns c = simp (← c.byte_at.ensures, ne_eqb _ _ c.if-byte_at-eq60.false)
+returns-else-byte_at-eq60 c = simp (← c.byte_at.ensures, ne_eqb _ _ c.if-byte_at-eq60.false)

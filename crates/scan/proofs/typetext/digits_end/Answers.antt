@@ -5,6 +5,6 @@ pub returns-then-is_digit : goal.returns-then-is_digit
 unfolding digits_end
 returns-then-is_digit c = simp (← c.byte_at.ensures, ← c.is_digit.ensures, c.if-is_digit.true, ← c.run_end.ensures)
 
-pub returns : goal.returns
+pub returns-else-is_digit : goal.returns-else-is_digit
 unfolding digits_end
-returns c = simp (← c.byte_at.ensures, ← c.is_digit.ensures, c.if-is_digit.false)
+returns-else-is_digit c = simp (← c.byte_at.ensures, ← c.is_digit.ensures, c.if-is_digit.false)

@@ -8,19 +8,19 @@ use Rattle.scan.specs.TensorText.{element_end}
 use Rattle.scan.proofs.typetext.element_end.Goals as goal
 
 pub overflow_add-at : goal.overflow_add-at
-overflow_add-at c = let h : 8 ≤ length c.args.text.now - c.args.at = starts-inside (ascii "complex<") c.args.text.now c.args.at (sym c.opens_complex.ensures ∙ c.if-opens_complex.true) in omega arith
+overflow_add-at c = let h : 8 ≤ length c.args.text.now - c.args.at = starts-inside (ascii "complex<") c.args.text.now c.args.at (sym c.starts.ensures ∙ c.if-starts.true) in omega arith
 
-pub returns-then-opens_complex : goal.returns-then-opens_complex
+pub returns-then-starts : goal.returns-then-starts
 unfolding element_end
-returns-then-opens_complex c = simp (← c.opens_complex.ensures, c.if-opens_complex.true, ← c.complex_end.ensures)
+returns-then-starts c = simp (← c.starts.ensures, c.if-starts.true, ← c.complex_end.ensures)
 
-pub overflow_add-at-then-opens_quantized : goal.overflow_add-at-then-opens_quantized
-overflow_add-at-then-opens_quantized c = let h : 15 ≤ length c.args.text.now - c.args.at = starts-inside (ascii "!quant.uniform<") c.args.text.now c.args.at (sym c.opens_quantized.ensures ∙ c.if-opens_quantized.true) in omega arith
+pub overflow_add-at-then-starts-2 : goal.overflow_add-at-then-starts-2
+overflow_add-at-then-starts-2 c = let h : 15 ≤ length c.args.text.now - c.args.at = starts-inside (ascii "!quant.uniform<") c.args.text.now c.args.at (sym c.starts-else-starts.ensures ∙ c.if-starts-2.true) in omega arith
 
-pub returns-then-opens_quantized : goal.returns-then-opens_quantized
+pub returns-then-starts-2 : goal.returns-then-starts-2
 unfolding element_end
-returns-then-opens_quantized c = simp (← c.opens_complex.ensures, c.if-opens_complex.false, ← c.opens_quantized.ensures, c.if-opens_quantized.true, ← c.quantized_end.ensures)
+returns-then-starts-2 c = simp (← c.starts.ensures, c.if-starts.false, ← c.starts-else-starts.ensures, c.if-starts-2.true, ← c.quantized_end.ensures)
 
-pub returns : goal.returns
+pub returns-else-starts-2 : goal.returns-else-starts-2
 unfolding element_end
-returns c = simp (← c.opens_complex.ensures, c.if-opens_complex.false, ← c.opens_quantized.ensures, c.if-opens_quantized.false, ← c.word_end.ensures)
+returns-else-starts-2 c = simp (← c.starts.ensures, c.if-starts.false, ← c.starts-else-starts.ensures, c.if-starts-2.false, ← c.word_end.ensures)

@@ -5,6 +5,6 @@ pub returns-then-is_letter : goal.returns-then-is_letter
 unfolding word_end
 returns-then-is_letter c = simp (← c.byte_at.ensures, ← c.is_letter.ensures, c.if-is_letter.true, ← c.run_end.ensures)
 
-pub returns : goal.returns
+pub returns-else-is_letter : goal.returns-else-is_letter
 unfolding word_end
-returns c = simp (← c.byte_at.ensures, ← c.is_letter.ensures, c.if-is_letter.false)
+returns-else-is_letter c = simp (← c.byte_at.ensures, ← c.is_letter.ensures, c.if-is_letter.false)

@@ -1,6 +1,7 @@
-use Rattle.types.specs.Numbers.{magnitude_of, as_decimal, decimal_of}
+use Rattle.types.specs.Numbers.{magnitude_of, decimal_of}
+use Rattle.types.proofs.DigitLaw.{signed-decimal}
 use Rattle.types.proofs.numbers.decimal_at.Goals as goal
 
 pub returns : goal.returns
-unfolding decimal_of as_decimal magnitude_of
-returns c = simp (c.digits-d.ensures, c.sign_end.ensures, c.byte_at.ensures)
+unfolding decimal_of magnitude_of
+returns c = rw (← c.byte_at.ensures, ← c.sign_end.ensures) (signed-decimal _ _ _ c.digits.ensures)

@@ -1,28 +1,22 @@
-use Prim.Native.Nat.{◌+◌, ◌*◌, ◌^◌}
-use borrow.Author.Tests.{leb-true, leb-false}
-use mathlib.Core.Path.{sym, ◌∙◌}
-use mathlib.Core.Bool.{false}
-use native.Mathlib.Omega.{arith}
-use Rattle.types.proofs.DigitLaw.{digits-past, digits_step, digit-le, digits-big, decimal-small, decimal-big}
+use Rattle.std.proofs.Common.{arith, false, sym, ◌∙◌, ◌≡◌, ◌+◌, ◌-◌, ◌*◌, get_or}
+use Rattle.types.proofs.DigitLaw.{digits-past, digits_step, digits-big, decimal-small, decimal-big}
 use Rattle.types.proofs.numbers.digits.Goals as goal
 
-pub passes-requires : goal.passes-requires
-passes-requires c = rw c.digit_of-digit.ensures (digit-le _ (sym c.is_digit.ensures ∙ c.if-is_digit.true))
+pub returns-then-not-is_digit : goal.returns-then-not-is_digit
+returns-then-not-is_digit c = rw (← c.tail-b-items.ensures, ← c.loop-b.invariant.1, digits_step _ _ _ c.loop-b-test.true) (simp (← c.is_digit.ensures, c.if-not-is_digit.true) (sym (decimal-small false _ c.loop-b.invariant.0)))
 
-pub returns-then-passes : goal.returns-then-passes
-returns-then-passes c = sym (decimal-big false _ (digits-big c.args.text.now c.loop-i.i c.loop-i.v _ c.loop-i-test.true (sym c.is_digit.ensures ∙ c.if-is_digit.true) (rw (← c.digit_of-digit.ensures) (leb-true _ _ (sym c.passes.ensures ∙ c.if-passes.true))) c.loop-i.invariant.1))
+pub returns-in_err-checked_mul : goal.returns-in_err-checked_mul
+returns-in_err-checked_mul c = rw (c.from_residual.ensures, ← c.tail-b-items.ensures)
+    (sym (decimal-big false _ (digits-big c.tail-b-items.result.now c.loop-b.b-index c.loop-b.v _ c.loop-b-test.true (sym c.is_digit.ensures ∙ c.if-not-is_digit.false) (omega (arith, c.in_err-checked_mul.ensures)) c.loop-b.invariant.1)))
 
-pub overflow_mul-v : goal.overflow_mul-v
-overflow_mul-v c = omega (arith, leb-false (2 ^ 64) (c.loop-i.v * 10 + c.digit_of-digit.result) (sym c.passes.ensures ∙ c.if-passes.false))
+pub returns-in_err-v : goal.returns-in_err-v
+returns-in_err-v c = rw (c.from_residual-in_err-v.ensures, ← c.tail-b-items.ensures)
+    (sym (decimal-big false _ (digits-big c.tail-b-items.result.now c.loop-b.b-index c.loop-b.v _ c.loop-b-test.true (sym c.is_digit.ensures ∙ c.if-not-is_digit.false) (omega (arith, c.in_err-v.ensures, c.in_ok-checked_mul.ensures)) c.loop-b.invariant.1)))
 
-pub overflow_add-v : goal.overflow_add-v
-overflow_add-v c = omega (arith, leb-false (2 ^ 64) (c.loop-i.v * 10 + c.digit_of-digit.result) (sym c.passes.ensures ∙ c.if-passes.false))
-
-pub loop-i-preserved : goal.loop-i-preserved
-loop-i-preserved c = (omega (arith, leb-false (2 ^ 64) (c.loop-i.v * 10 + c.digit_of-digit.result) (sym c.passes.ensures ∙ c.if-passes.false)), rw (← c.loop-i.invariant.1, digits_step _ _ _ c.loop-i-test.true) (simp (← c.is_digit.ensures, c.if-is_digit.true, ← c.digit_of-digit.ensures)))
-
-pub returns-else-is_digit : goal.returns-else-is_digit
-returns-else-is_digit c = rw (← c.loop-i.invariant.1, digits_step _ _ _ c.loop-i-test.true) (simp (← c.is_digit.ensures, c.if-is_digit.false) (sym (decimal-small false _ c.loop-i.invariant.0)))
+pub loop-b-preserved : goal.loop-b-preserved
+loop-b-preserved c =
+    let e : c.in_ok-v.v ≡ c.loop-b.v * 10 + (get_or c.tail-b-items.result.now c.loop-b.b-index 0 - 48) = omega (arith, c.in_ok-v.ensures, c.in_ok-checked_mul.ensures) in
+    (omega (arith, c.in_ok-v.ensures), rw (← c.loop-b.invariant.1, digits_step _ _ _ c.loop-b-test.true) (simp (← c.is_digit.ensures, c.if-not-is_digit.false, e)))
 
 pub returns : goal.returns
-returns c = rw (← c.loop-i.invariant.1, digits-past _ _ _ c.loop-i-test.false) (sym (decimal-small false _ c.loop-i.invariant.0))
+returns c = rw (← c.tail-b-items.ensures, ← c.loop-b.invariant.1, digits-past _ _ _ c.loop-b-test.false) (sym (decimal-small false _ c.loop-b.invariant.0))

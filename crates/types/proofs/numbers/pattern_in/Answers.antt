@@ -1,16 +1,28 @@
+use Rattle.std.proofs.Common.{refl, sym, ◌∙◌}
 use Rattle.types.specs.Numbers.{magnitude_of, negative_at, decimal_of, decimal_number}
 use Rattle.types.proofs.DigitLaw.{of_negative, of-big, of-small, big-pattern}
-use mathlib.Core.Path.{sym, ◌∙◌}
 use Rattle.types.proofs.numbers.pattern_in.Goals as goal
+
+pub returns-in_err-magnitude : goal.returns-in_err-magnitude
+unfolding decimal_of decimal_number
+returns-in_err-magnitude c =
+    let n = negative_at c.args.text.now c.args.start in
+    let m = magnitude_of c.args.text.now c.args.start in
+    let e = rw c.in_err-magnitude.was at c.decimal_at-d.ensures in
+    rw c.from_residual.ensures (sym (big-pattern n m (of-big n m e refl)))
 
 pub returns-then-d : goal.returns-then-d
 unfolding decimal_of decimal_number
-returns-then-d c = let text = c.args.text.now in let at = c.args.start in let n = negative_at text at in let m = magnitude_of text at in sym (big-pattern n m (of-big n m c.decimal_at-d.ensures c.if-d.true))
+returns-then-d c =
+    let n = negative_at c.args.text.now c.args.start in
+    let m = magnitude_of c.args.text.now c.args.start in
+    let e = rw c.in_ok-magnitude.was at c.decimal_at-d.ensures in
+    c.negated_pattern.ensures ∙ rw (of-small n m e refl, ← of_negative n m e, c.if-d.true)
 
-pub returns-then-d-2 : goal.returns-then-d-2
+pub returns-else-d : goal.returns-else-d
 unfolding decimal_of decimal_number
-returns-then-d-2 c = let text = c.args.text.now in let at = c.args.start in let n = negative_at text at in let m = magnitude_of text at in c.negated_pattern.ensures ∙ rw (of-small n m c.decimal_at-d.ensures c.if-d.false, ← of_negative n m c.decimal_at-d.ensures, c.if-d-2.true)
-
-pub returns : goal.returns
-unfolding decimal_of decimal_number
-returns c = let text = c.args.text.now in let at = c.args.start in let n = negative_at text at in let m = magnitude_of text at in c.pattern_of.ensures ∙ rw (of-small n m c.decimal_at-d.ensures c.if-d.false, ← of_negative n m c.decimal_at-d.ensures, c.if-d-2.false)
+returns-else-d c =
+    let n = negative_at c.args.text.now c.args.start in
+    let m = magnitude_of c.args.text.now c.args.start in
+    let e = rw c.in_ok-magnitude.was at c.decimal_at-d.ensures in
+    c.pattern_of.ensures ∙ rw (of-small n m e refl, ← of_negative n m e, c.if-d.false)

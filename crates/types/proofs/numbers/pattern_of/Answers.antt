@@ -8,5 +8,5 @@ use Rattle.types.proofs.numbers.pattern_of.Goals as goal
 pub returns-then-n-lt9223372036854775808 : goal.returns-then-n-lt9223372036854775808
 returns-then-n-lt9223372036854775808 c = let n = c.args.n in sym (pattern-fits (pos n) c.if-n-lt9223372036854775808.true ∙ ap fitting (pattern-pos n c.if-n-lt9223372036854775808.true))
 
-pub returns : goal.returns
-returns c = sym (pattern-unfit (pos c.args.n) c.if-n-lt9223372036854775808.false)
+pub returns-else-n-lt9223372036854775808 : goal.returns-else-n-lt9223372036854775808
+returns-else-n-lt9223372036854775808 c = sym (pattern-unfit (pos c.args.n) c.if-n-lt9223372036854775808.false)

@@ -1,22 +1,25 @@
-use Rattle.types.proofs.ShapeLaw.{shape-le}
-use Rattle.types.specs.Tensors.{type_after}
-use borrow.Author.Tests.{eq-eqb, ne_eqb}
+use Rattle.std.proofs.Common.{arith}
+use Rattle.types.specs.Tensors.{foreign, type_after}
+use Rattle.types.proofs.ShapeLaw.{shape-within, none-found}
 use Rattle.types.proofs.tensors.type_after.Goals as goal
 
-pub count_byte-requires : goal.count_byte-requires
-count_byte-requires c = rw c.shape_end-end.ensures (shape-le c.args.text.now c.args.at c.requires)
+pub slice_bounds-bytes-count : goal.slice_bounds-bytes-count
+slice_bounds-bytes-count c = let b = shape-within _ _ _ c.shape_end-end.ensures c.requires in omega arith
 
-pub typed_by-requires : goal.typed_by-requires
-typed_by-requires c = rw c.shape_end-end.ensures (shape-le c.args.text.now c.args.at c.requires)
+pub slice_bounds-bytes-start : goal.slice_bounds-bytes-start
+slice_bounds-bytes-start c = let b = shape-within _ _ _ c.shape_end-end.ensures c.requires in omega arith
 
-pub returns-then-count_byte-eq0 : goal.returns-then-count_byte-eq0
+pub slice_bounds-bytes-end : goal.slice_bounds-bytes-end
+slice_bounds-bytes-end c = let b = shape-within _ _ _ c.shape_end-end.ensures c.requires in omega arith
+
+pub returns-in_err-element : goal.returns-in_err-element
+unfolding type_after foreign
+returns-in_err-element c = rw c.from_residual.ensures (simp (← c.shape_end-end.ensures, ← c.type_close.ensures, ← c.in_err-element.ensures))
+
+pub returns-then-contains : goal.returns-then-contains
+unfolding type_after foreign
+returns-then-contains c = simp (← c.shape_end-end.ensures, ← c.type_close.ensures, ← c.in_ok-element.ensures, none-found, ← c.contains.ensures.value, c.if-contains.true)
+
+pub returns-else-contains : goal.returns-else-contains
 unfolding type_after
-returns-then-count_byte-eq0 c = simp (← c.shape_end-end.ensures, ← c.type_close.ensures, ← c.element_named-name.ensures, c.if-name.true, ← c.count_byte.ensures, eq-eqb _ _ c.if-count_byte-eq0.true, ← c.typed_by.ensures)
-
-pub returns-then-name : goal.returns-then-name
-unfolding type_after
-returns-then-name c = simp (← c.shape_end-end.ensures, ← c.type_close.ensures, ← c.element_named-name.ensures, c.if-name.true, ← c.count_byte.ensures, ne_eqb _ _ c.if-count_byte-eq0.false, ← c.foreign_type.ensures)
-
-pub returns : goal.returns
-unfolding type_after
-returns c = simp (← c.shape_end-end.ensures, ← c.type_close.ensures, ← c.element_named-name.ensures, c.if-name.false, ← c.foreign_type-2.ensures)
+returns-else-contains c = simp (← c.shape_end-end.ensures, ← c.type_close.ensures, ← c.in_ok-element.ensures, none-found, ← c.contains.ensures.value, c.if-contains.false, ← c.typed_by.ensures)

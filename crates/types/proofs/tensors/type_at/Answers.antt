@@ -1,22 +1,15 @@
-use Rattle.types.specs.Tensors.{type_of}
+use Rattle.std.proofs.Common.{arith, sym, ◌∙◌, ◌-◌, ◌≤◌, length}
 use Rattle.scan.proofs.ByteLaw.{starts-inside}
 use Rattle.scan.specs.Ascii.{ascii}
-use native.Mathlib.Omega.{arith}
-use lib.ListN.{length}
-use Prim.Native.Nat.{◌-◌, ◌≤◌}
-use mathlib.Core.Path.{sym, ◌∙◌}
+use Rattle.types.specs.Tensors.{foreign, type_of}
 use Rattle.types.proofs.tensors.type_at.Goals as goal
 
 pub overflow_add-start : goal.overflow_add-start
-overflow_add-start c = let h : 7 ≤ length c.args.text.now - c.args.start = starts-inside (ascii "tensor<") c.args.text.now c.args.start (sym c.opens_tensor.ensures ∙ c.if-opens_tensor.true) in omega arith
+overflow_add-start c = let h : 7 ≤ length c.args.text.now - c.args.start = starts-inside (ascii "tensor<") c.args.text.now c.args.start (sym c.starts.ensures ∙ c.if-starts.true) in omega arith
 
 pub type_after-requires : goal.type_after-requires
-type_after-requires c = let h : 7 ≤ length c.args.text.now - c.args.start = starts-inside (ascii "tensor<") c.args.text.now c.args.start (sym c.opens_tensor.ensures ∙ c.if-opens_tensor.true) in omega arith
+type_after-requires c = let h : 7 ≤ length c.args.text.now - c.args.start = starts-inside (ascii "tensor<") c.args.text.now c.args.start (sym c.starts.ensures ∙ c.if-starts.true) in omega arith
 
-pub returns-then-opens_tensor : goal.returns-then-opens_tensor
-unfolding type_of
-returns-then-opens_tensor c = simp (← c.opens_tensor.ensures, c.if-opens_tensor.true, ← c.type_after.ensures)
-
-pub returns : goal.returns
-unfolding type_of
-returns c = simp (← c.opens_tensor.ensures, c.if-opens_tensor.false, ← c.foreign_type.ensures)
+pub returns-else-starts : goal.returns-else-starts
+unfolding type_of foreign
+returns-else-starts c = simp (← c.starts.ensures, c.if-starts.false)
