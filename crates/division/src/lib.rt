@@ -21,7 +21,7 @@ pub fn quotient_i8(a: i8, b: i8) -> i8
     requires { b ≡ pos 0 → ⊥ }
     ensures { result ≡ quotient_of 8 a b }
 {
-    a.wrapping_div(b)
+    i8::wrapping_div(a, b)
 }
 
 // The remainder, with the dividend's sign; by -1 it is 0.
@@ -29,7 +29,7 @@ pub fn remainder_i8(a: i8, b: i8) -> i8
     requires { b ≡ pos 0 → ⊥ }
     ensures { result ≡ rem_z a b }
 {
-    a.wrapping_rem(b)
+    i8::wrapping_rem(a, b)
 }
 
 // The quotient toward zero; of the lowest value by -1 the lowest value.
@@ -37,7 +37,7 @@ pub fn quotient_i16(a: i16, b: i16) -> i16
     requires { b ≡ pos 0 → ⊥ }
     ensures { result ≡ quotient_of 16 a b }
 {
-    a.wrapping_div(b)
+    i16::wrapping_div(a, b)
 }
 
 // The remainder, with the dividend's sign; by -1 it is 0.
@@ -45,7 +45,7 @@ pub fn remainder_i16(a: i16, b: i16) -> i16
     requires { b ≡ pos 0 → ⊥ }
     ensures { result ≡ rem_z a b }
 {
-    a.wrapping_rem(b)
+    i16::wrapping_rem(a, b)
 }
 
 // The quotient toward zero; of the lowest value by -1 the lowest value.
@@ -53,7 +53,7 @@ pub fn quotient_i32(a: i32, b: i32) -> i32
     requires { b ≡ pos 0 → ⊥ }
     ensures { result ≡ quotient_of 32 a b }
 {
-    a.wrapping_div(b)
+    i32::wrapping_div(a, b)
 }
 
 // The remainder, with the dividend's sign; by -1 it is 0.
@@ -61,7 +61,7 @@ pub fn remainder_i32(a: i32, b: i32) -> i32
     requires { b ≡ pos 0 → ⊥ }
     ensures { result ≡ rem_z a b }
 {
-    a.wrapping_rem(b)
+    i32::wrapping_rem(a, b)
 }
 
 // The quotient toward zero; of the lowest value by -1 the lowest value.
@@ -69,7 +69,7 @@ pub fn quotient_i64(a: i64, b: i64) -> i64
     requires { b ≡ pos 0 → ⊥ }
     ensures { result ≡ quotient_of 64 a b }
 {
-    a.wrapping_div(b)
+    i64::wrapping_div(a, b)
 }
 
 // The remainder, with the dividend's sign; by -1 it is 0.
@@ -77,7 +77,7 @@ pub fn remainder_i64(a: i64, b: i64) -> i64
     requires { b ≡ pos 0 → ⊥ }
     ensures { result ≡ rem_z a b }
 {
-    a.wrapping_rem(b)
+    i64::wrapping_rem(a, b)
 }
 
 // Either, of two numbers of a signed type, at its width.

@@ -634,7 +634,7 @@ pub fn op_row(i: usize) -> Row
 }
 
 // The place of name i: the ops' names, then the others.
-fn word_at(i: usize) -> Word
+pub fn word_at(i: usize) -> Word
     requires { i < length names }
     ensures { result ≡ word_at i }
 {

@@ -59,6 +59,24 @@ pub run_more : (letters : Bool) (text : List ℕ) (at : ℕ) → at < length tex
 unfolding run_end run_from
 run_more letters text at h p = rw (add-one, drop-cons text at 0, p)
 
+pub starts_none : (ws s : List ℕ) (k : ℕ) → length ws ≤ k → starts_with (drop k ws) s ≡ true
+unfolding starts_with
+starts_none ws s k h = rw drop_of_length-le
+
+module _ (ws s : List ℕ) (k i : ℕ) where
+  pub starts-end : k < length ws → length s ≤ i → starts_with (drop k ws) (drop i s) ≡ false
+  unfolding starts_with
+  starts-end h g = rw (drop-cons ws k 0, drop_of_length-le s g)
+
+  pub starts_more : k < length ws → i < length s → get_or ws k 0 ≡ get_or s i 0
+      → starts_with (drop (k + 1) ws) (drop (i + 1) s) ≡ starts_with (drop k ws) (drop i s)
+  unfolding starts_with
+  starts_more h g e = rw (add-one, add-one, drop-cons ws k 0, drop-cons s i 0, eq-eqb _ _ e)
+
+  pub starts-not : k < length ws → i < length s → (get_or ws k 0 ≡ get_or s i 0 → ⊥) → starts_with (drop k ws) (drop i s) ≡ false
+  unfolding starts_with
+  starts-not h g e = rw (drop-cons ws k 0, drop-cons s i 0, ne_eqb _ _ e)
+
 -- `starts_with` of slices
 pub starts-same : (ws s : List ℕ) → pointwise eqb ws (take (length ws) s) ≡ starts_with ws s
 unfolding starts_with

@@ -73,7 +73,13 @@ pub fn byte_at(text: &[u8], at: usize) -> u8
 pub fn starts(text: &[u8], at: usize, word: &[u8]) -> bool
     ensures { result ≡ starts_with word.now (drop at text.now) }
 {
-    tail(text, at).starts_with(word)
+    let rest = tail(text, at);
+    for (k, b) in word.iter().enumerate() {
+        if rest.len() <= k || rest[k] != *b {
+            return false;
+        }
+    }
+    true
 }
 
 // The first place at or after `at` that is neither white space nor in a comment. A comment ends with its LF.
