@@ -28,7 +28,9 @@ fn copy_front(x: &[u64], out: &mut [u64])
     requires { length x.now ≤ length out.old }
     ensures { out.new ≡ copied x.now out.old }
 {
-    out[..x.len()].copy_from_slice(x);
+    for k in 0..x.len() {
+        out[k] = x[k];
+    }
 }
 
 // The inputs are copied to the store and to `done`, then the ops are done.

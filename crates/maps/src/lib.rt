@@ -290,7 +290,9 @@ pub fn reshape(x: &[u64], from: Shape, to: Shape, out: &mut [u64])
     requires { Stretches from to x.now out.old × ReshapeHolds (dims_of from) (dims_of to) }
     ensures { out.new ≡ reshaped (dims_of from) (dims_of to) x.now }
 {
-    out.copy_from_slice(x);
+    for k in 0..out.len() {
+        out[k] = x[k];
+    }
 }
 
 // Element k of iota: its coordinate along the dimension, taken into the type's range.
