@@ -564,7 +564,7 @@ const NO_ROW: Row = Row {
 };
 
 // The places of the names of attributes, first words of choices and choices.
-const OTHERS: [Word; 25] = [
+static OTHERS: [Word; 25] = [
     Word { at: 670, len: 5 }, // value
     Word { at: 675, len: 14 }, // iota_dimension
     Word { at: 689, len: 20 }, // broadcast_dimensions

@@ -13,6 +13,7 @@ use lib.Dec.{eqb}
 use lib.Seq.{drop-cons, drop-drop}
 use borrow.Author.Tests.{eq-eqb, ne_eqb}
 use Rattle.lists.specs.Lists.{pick}
+use Rattle.scan.specs.Ascii.{ascii}
 use Rattle.scan.specs.Bytes.{byte_at, is_space, in_run, run_from, run_end, starts_with, in_comment, skip_from}
 
 pub or-false : (b : Bool) → (b || false) ≡ b
@@ -97,6 +98,17 @@ starts-fits (w ∷ ws) (b ∷ bs) e = let h = starts-fits ws bs (second (eqb w b
 
 pub starts-inside : (ws text : List ℕ) (at : ℕ) → starts_with ws (drop at text) ≡ true → length ws ≤ length text - at
 starts-inside ws text at e = let h = starts-fits ws (drop at text) e in rw length-drop at h
+
+-- a space begins no comment
+pub space-no-comment : (xs : List ℕ) (k : ℕ) → k < length xs → is_space (get_or xs k 0) ≡ true → starts_with (ascii "//") (drop k xs) ≡ false
+unfolding starts_with is_space
+space-no-comment xs k h e = rw (drop-cons xs k 0, ne_eqb 47 (get_or xs k 0) no_slash)
+  where
+    no_slash : 47 ≡ get_or xs k 0 → ⊥
+    no_slash q =
+        let f : is_space (get_or xs k 0) ≡ false = rw (← q) refl in
+        let one : ◌≡◌ {A = ℕ} 0 1 = cc in
+        absurd (omega arith)
 
 -- after k bytes of the list, whose first has place at
 module _ (xs : List ℕ) (at k : ℕ) (begun : Bool) where

@@ -90,10 +90,11 @@ pub fn skip(text: &[u8], at: usize) -> usize
     for (i, b) in tail(text, at).iter().enumerate() {
         if comment {
             comment = *b != b'\n';
-        } else if starts(text, at + i, b"//") {
-            comment = true;
         } else if !is_space(*b) {
-            return at + i;
+            if !starts(text, at + i, b"//") {
+                return at + i;
+            }
+            comment = true;
         }
     }
     at.max(text.len())

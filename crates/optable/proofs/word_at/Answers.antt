@@ -12,8 +12,8 @@ returns-then-i-lt-COUNT c = rw c.op_row-row.ensures (sym (row-place _ (rw ops-co
 pub offset_bounds-i : goal.offset_bounds-i
 offset_bounds-i c = let h : c.args.i < 59 = rw names-length at c.requires in omega arith
 
-pub bounds-i-i : goal.bounds-i-i
-bounds-i-i c = let h : c.args.i < 59 = rw names-length at c.requires in omega arith
+pub bounds-i : goal.bounds-i
+bounds-i c = let h : c.args.i < 59 = rw names-length at c.requires in omega arith
 
 pub returns : goal.returns
 unfolding names op_names attribute_names choice_kind_names choice_names ops attributes choice_kinds choices

@@ -1,4 +1,4 @@
-use Rattle.std.proofs.Common.{rules, sym, ◌∙◌}
+use Rattle.std.proofs.Common.{sym, ◌∙◌}
 use Rattle.scan.proofs.ByteLaw.{starts_none, starts-end, starts_more, starts-not}
 use Rattle.scan.proofs.bytes.starts.Goals as goal
 use Rattle.scan.proofs.bytes.starts.Goals.{then-rest-k-via-then-rest-k, then-rest-k-via-else-rest-k+then-rest-k-2}
